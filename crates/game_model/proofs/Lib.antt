@@ -1,0 +1,6 @@
+pub mod Steps
+pub mod Pay
+pub mod Lower
+pub mod Rows
+pub mod Family
+pub mod Example

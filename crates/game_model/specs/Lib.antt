@@ -1,0 +1,6 @@
+pub mod Numbers
+pub mod Plan
+pub mod Play
+pub mod Laws
+pub mod Game
+pub mod Seeds

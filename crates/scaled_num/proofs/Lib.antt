@@ -1,0 +1,4 @@
+pub mod Ring
+pub mod Products
+pub mod Sums
+pub mod Quotient
