@@ -1,0 +1,78 @@
+-- What stands at every place stands at each one.
+use Rattle.std.proofs.Common.{ℕ, ◌<◌, List, [], ◌∷◌, ◌++◌, length, map, flat_map, cond, ◌==◌, refl, arith, sym, ◌∙◌, subst, eq-eqb}
+use Rattle.std.specs.List.{AllByRecursion}
+use Rattle.std.proofs.lemmas.List.FromFn.{get_or-range_with_len, length-range_with_len}
+use Rattle.scaled_num.specs.Sums.{below}
+use Rattle.scaled_num.proofs.Sums.{each-at}
+use Rattle.controller.specs.Certificates.{CertificateData, CornerAt, BoundAt, Holds, NodeAt, OutcomeAt, Place, SplitAt, StartAt, ValueAt, corner_places, node_places, places, point_places, split_places, value_places}
+use Rattle.game_model.specs.Game.{GameData}
+
+pub each-front : {X : Type 0} (P : X → Type 0) (xs ys : List X) → AllByRecursion P (xs ++ ys) → AllByRecursion P xs
+each-front P [] ys h = tt
+each-front P (x ∷ xs) ys h = (h.0, each-front P xs ys h.1)
+
+pub each-back : {X : Type 0} (P : X → Type 0) (xs ys : List X) → AllByRecursion P (xs ++ ys) → AllByRecursion P ys
+each-back P [] ys h = h
+each-back P (x ∷ xs) ys h = each-back P xs ys h.1
+
+pub each-of-map : {X Y : Type 0} (P : Y → Type 0) (f : X → Y) (xs : List X) → AllByRecursion P (map f xs) → AllByRecursion (λ x. P (f x)) xs
+each-of-map P f [] h = tt
+each-of-map P f (x ∷ xs) h = (h.0, each-of-map P f xs h.1)
+
+pub each-of-flat_map : {X Y : Type 0} (P : Y → Type 0) (f : X → List Y) (xs : List X) → AllByRecursion P (flat_map f xs) → AllByRecursion (λ x. AllByRecursion P (f x)) xs
+each-of-flat_map P f [] h = tt
+each-of-flat_map P f (x ∷ xs) h = (each-front P (f x) (flat_map f xs) h, each-of-flat_map P f xs (each-back P (f x) (flat_map f xs) h))
+
+pub at-below : (P : ℕ → Type 0) (n i : ℕ) → AllByRecursion P (below n) → i < n → P i
+at-below P n i h l =
+    subst P (get_or-range_with_len 0 n i 0 l ∙ omega arith) (each-at P 0 (below n) i h (subst (λ (m : ℕ). i < m) (sym (length-range_with_len 0 n)) l))
+
+-- the rule of each place of a certificate that stands
+pub record Rules (g : GameData) (k : CertificateData) : Type 0 where
+  pub node : (i s c : ℕ) → i < length k.nodes → s < g.shape.states → c < g.shape.informed_actions → Holds g k (NodeAt i s c)
+  pub corner : (j : ℕ) → j < length k.points → j < g.shape.states → Holds g k (CornerAt j)
+  pub split : (j a o s : ℕ) → j < length k.points → a < g.shape.own_actions → o < g.shape.observations → s < g.shape.states → Holds g k (SplitAt j a o s)
+  pub value : (j a : ℕ) → j < length k.points → a < g.shape.own_actions → Holds g k (ValueAt j a)
+  pub start : Holds g k StartAt
+  pub bound : Holds g k BoundAt
+  pub outcome : Holds g k OutcomeAt
+
+pub rules : (g : GameData) (k : CertificateData) → AllByRecursion (Holds g k) (places g k) → Rules g k
+rules g k h =
+    let P = Holds g k in
+    let points = flat_map (point_places g) (below (length k.points)) in
+    let tail = StartAt ∷ BoundAt ∷ OutcomeAt ∷ [] in
+    let rest = each-back P (node_places g k) (points ++ tail) h in
+    let nodes = each-front P (node_places g k) (points ++ tail) h in
+    let ends = each-back P points tail rest in
+    let at_point = λ (j : ℕ) (l : j < length k.points). at-below _ (length k.points) j (each-of-flat_map P (point_places g) (below (length k.points)) (each-front P points tail rest)) l in
+    let behind = λ (j : ℕ) (l : j < length k.points). each-back P (corner_places g j) (split_places g j ++ value_places g j) (at_point j l) in
+    record {
+      node = λ i s c li ls lc.
+          at-below _ g.shape.informed_actions c
+          (each-of-map P (λ c. NodeAt i s c) _
+          (at-below _ g.shape.states s
+          (each-of-flat_map P (λ s. map (λ c. NodeAt i s c) (below g.shape.informed_actions)) _
+          (at-below _ (length k.nodes) i
+          (each-of-flat_map P (λ i. flat_map (λ s. map (λ c. NodeAt i s c) (below g.shape.informed_actions)) (below g.shape.states)) _ nodes) li)) ls)) lc;
+      corner = λ j l ls.
+          corner_of P j
+          (at-below (λ s. AllByRecursion P (cond (s == j) (CornerAt j ∷ []) [])) g.shape.states j
+          (each-of-flat_map P (λ s. cond (s == j) (CornerAt j ∷ []) []) _ (each-front P (corner_places g j) (split_places g j ++ value_places g j) (at_point j l))) ls);
+      split = λ j a o s l la lo ls.
+          at-below _ g.shape.states s
+          (each-of-map P (λ s. SplitAt j a o s) _
+          (at-below _ g.shape.observations o
+          (each-of-flat_map P (λ o. map (λ s. SplitAt j a o s) (below g.shape.states)) _
+          (at-below _ g.shape.own_actions a
+          (each-of-flat_map P (λ a. flat_map (λ o. map (λ s. SplitAt j a o s) (below g.shape.states)) (below g.shape.observations)) _
+          (each-front P (split_places g j) (value_places g j) (behind j l))) la)) lo)) ls;
+      value = λ j a l la.
+          at-below _ g.shape.own_actions a (each-of-map P (λ a. ValueAt j a) _ (each-back P (split_places g j) (value_places g j) (behind j l))) la;
+      start = ends.0;
+      bound = ends.1.0;
+      outcome = ends.1.1.0;
+    }
+  where
+    corner_of : (P : Place → Type 0) (j : ℕ) → AllByRecursion P (cond (j == j) (CornerAt j ∷ []) []) → P (CornerAt j)
+    corner_of P j h = (subst (λ b. AllByRecursion P (cond b (CornerAt j ∷ []) [])) (eq-eqb j j refl) h).0

@@ -1,0 +1,4 @@
+pub mod Parts
+pub mod Controller
+pub mod Splitting
+pub mod Standing

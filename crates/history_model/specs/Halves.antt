@@ -1,0 +1,53 @@
+-- What a certificate promises of its controller and of its splitting strategy, against every plan of the other player.
+use Rattle.std.specs.Prelude.{ℕ, ◌*◌, ◌^◌, ◌<◌, pos, ◌+ℤ◌, ◌-ℤ◌, ◌*ℤ◌, ◌≤ℤ◌, length}
+use Rattle.scaled_num.specs.Sums.{below, total}
+use Rattle.alpha_set.specs.Nodes.{nodes_of}
+use Rattle.controller.specs.Certificates.{CertificateData, first_total}
+use Rattle.game_model.specs.Branches.{mix_total}
+use Rattle.game_model.specs.Game.{GameData, first_at, numbers, span, unit}
+use Rattle.game_model.specs.Plan.{InformedPlan, IsInformedPlan, IsOwnPlan, OwnPlan}
+use Rattle.game_model.specs.Play.{pay}
+use Rattle.history_model.specs.Plans.{informed_plan, mass_product, own_plan}
+use Rattle.point_set.specs.Points.{points_of}
+
+-- the controller of a certificate: the plan of its start node
+abbrev pub own : CertificateData → (n : ℕ) → OwnPlan n
+own k n = own_plan (nodes_of k.nodes) k.start_node n
+
+-- the common multiple of all positive masses of all points
+abbrev pub common : GameData → CertificateData → ℕ
+common g k = mass_product (numbers g) (points_of k.points) (length k.points)
+
+-- the splitting strategy of a certificate: the plan of its start point in each first state
+abbrev pub hold : GameData → CertificateData → ℕ → (n : ℕ) → InformedPlan n
+hold g k s n = informed_plan (numbers g) (points_of k.points) (common g k) k.start_point s n
+
+-- Against every family of plans of the informed player the controller earns at least the lower bound less the tail,
+-- summed over the first states by the first belief.
+abbrev pub LowerHalf : GameData → CertificateData → Type 0
+LowerHalf g k =
+    (whole n : ℕ) (family : ℕ → InformedPlan n) → ((s : ℕ) → s < g.shape.states → IsInformedPlan (numbers g) whole n (family s)) →
+    (((k.lower.num *ℤ pos ((numbers g).discount_under ^ n) -ℤ pos ((numbers g).discount_over ^ n * span g * first_total g)) *ℤ pos (((numbers g).row_total * mix_total * whole) ^ n))
+    ≤ℤ (pos unit *ℤ total (λ s. pos (first_at g s) *ℤ pay (numbers g) n s (own k n) (family s)) (below g.shape.states)))
+
+-- and in each first state alone at least the start node's entry less the tail
+abbrev pub LowerHalfAt : GameData → CertificateData → Type 0
+LowerHalfAt g k =
+    (whole n s : ℕ) (tau : InformedPlan n) → s < g.shape.states → IsInformedPlan (numbers g) whole n tau →
+    ((((nodes_of k.nodes k.start_node).vector s *ℤ pos ((numbers g).discount_under ^ n) -ℤ pos ((numbers g).discount_over ^ n * span g)) *ℤ pos (((numbers g).row_total * mix_total * whole) ^ n))
+    ≤ℤ (pos unit *ℤ pay (numbers g) n s (own k n) tau))
+
+-- Against every plan of player one the splitting strategy holds the payoff to at most the upper bound plus the tail.
+abbrev pub UpperHalf : GameData → CertificateData → Type 0
+UpperHalf g k =
+    (whole n : ℕ) (sigma : OwnPlan n) → IsOwnPlan (numbers g) whole n sigma →
+    ((pos unit *ℤ total (λ s. pos (first_at g s) *ℤ pay (numbers g) n s sigma (hold g k s n)) (below g.shape.states))
+    ≤ℤ ((k.upper.num *ℤ pos ((numbers g).discount_under ^ n) +ℤ pos ((numbers g).discount_over ^ n * span g * first_total g)) *ℤ pos (((numbers g).row_total * whole * mix_total * common g k) ^ n)))
+
+-- the controller is a right plan of player one, of the total of its mixes
+abbrev pub OwnIsPlan : GameData → CertificateData → Type 0
+OwnIsPlan g k = (n : ℕ) → IsOwnPlan (numbers g) mix_total n (own k n)
+
+-- the splitting strategy is a right plan of the informed player in each first state
+abbrev pub HoldIsPlan : GameData → CertificateData → Type 0
+HoldIsPlan g k = (n s : ℕ) → s < g.shape.states → IsInformedPlan (numbers g) (mix_total * common g k) n (hold g k s n)
