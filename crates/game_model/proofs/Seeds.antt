@@ -171,7 +171,7 @@ seeds-stand g span a vector keeps la seed =
 pub seeds-earn : SeedsEarn
 seeds-earn g span a vector first lower keeps la seed is =
     let stand = seeds-stand g span a vector keeps la seed in
-    λ whole n family right.
+    λ n whole family right.
     subst (λ (z : ℤ). ((z *ℤ pos (g.discount_under ^ n) -ℤ pos (g.discount_over ^ n * span * sum_by first (below g.states))) *ℤ pos ((g.row_total * whole) ^ n))
     ≤ℤ (pos unit *ℤ family_pay g first n (always a n) family)) is
     (always-earns_family g unit span a vector first keeps.full la (λ s ls. (stand.1 s ls).1) stand.0 whole n family right)
