@@ -51,6 +51,12 @@ pub record KeepsSpan (g : Numbers) (span : ℕ) : Type 0 where
   pub informed : 1 ≤ g.informed_actions
   pub rewards : IsSpanOf g span
 
+-- an action has one seed vector, as far as the states go
+abbrev pub SeedsAreOne : Type 0
+SeedsAreOne =
+    (g : Numbers) (span a : ℕ) (vector other : ℕ → ℤ) → IsSeed g span a vector → IsSeed g span a other →
+    (s : ℕ) → s < g.states → vector s ≡ other s
+
 -- a seed vector stands, and its entries are within the span
 abbrev pub SeedsStand : Type 0
 SeedsStand =
