@@ -64,18 +64,19 @@ SeedsStand =
     AlwaysStands g unit a vector × ((s : ℕ) → s < g.states → ((neg_ℤ (pos span)) ≤ℤ (vector s)) × ((vector s) ≤ℤ (pos span)))
 
 -- The plan that always plays a earns at least `lower` from the first belief, less the tail: over any number n
--- of stages, and against any family of plans of the informed player, of any total N,
+-- of stages, and against any family of plans of the informed player, of any total `whole`,
 --
---     unit * pay >= (lower * Q^n - P^n * span * B) * (D * N)^n
+--     unit * pay >= (lower * Q^n - P^n * span * B) * (D * whole)^n
 --
 -- P / Q is the discount, D the row total, and B the sum of the first belief's weights. Divided by
--- unit * B * Q^n * (D * N)^n it says that the expected discounted payoff is at least lower / (unit * B), less
+-- unit * B * Q^n * (D * whole)^n it says that the expected discounted payoff is at least lower / (unit * B), less
 -- the tail (P / Q)^n * span / unit.
 abbrev pub FixedActionEarns : Numbers → (ℕ → ℕ) → ℕ → ℕ → ℤ → Type 0
 FixedActionEarns g first span a lower =
     (n whole : ℕ) (family : ℕ → InformedPlan n) → IsFamily g whole n family →
-    ((lower *ℤ pos (g.discount_under ^ n) -ℤ pos (g.discount_over ^ n * span * sum_by first (below g.states))) *ℤ pos ((g.row_total * whole) ^ n))
-    ≤ℤ (pos unit *ℤ family_pay g first n (always a n) family)
+    let tail = pos (g.discount_over ^ n * span * sum_by first (below g.states)) in
+    let scale = pos ((g.row_total * whole) ^ n) in
+    ((lower *ℤ pos (g.discount_under ^ n) -ℤ tail) *ℤ scale) ≤ℤ (pos unit *ℤ family_pay g first n (always a n) family)
 
 -- always playing an action earns the product of its seed vector with the first belief
 abbrev pub SeedsEarn : Type 0
