@@ -1,4 +1,4 @@
-use Rattle.game_model.proofs.Seeds.{seeds-are_one, seeds-stand, seeds-earn}
+use Rattle.game_model.proofs.SeedVectors.{seeds-are_one, seeds-stand, seeds-earn}
 use Rattle.game_model.proofs.laws.law_seeds.Goals as goal
 
 pub returns : goal.returns
