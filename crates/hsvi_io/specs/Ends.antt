@@ -1,5 +1,5 @@
 -- What is known of the ends that stand in memory.
-use Rattle.std.specs.Prelude.{ℕ, ◌+◌, ◌≤◌, List, [], ◌++◌, length, nat_le, if◌then◌else◌, Some, None}
+use Rattle.std.specs.Prelude.{ℕ, ◌+◌, List, ◌++◌, length, nat_le, if◌then◌else◌, Some, None}
 use Rattle.std.specs.declared.option.Option.{Option}
 
 -- A source in memory: the bytes that are left, the most that one call gives, the numbers of the calls that fail,
