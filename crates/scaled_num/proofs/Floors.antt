@@ -1,5 +1,5 @@
 -- Sums, floors and shares of lists of numbers that are not negative.
-use Rattle.std.proofs.Common.{◌≡◌, ◌≢◌, ℕ, suc, zero, ◌+◌, ◌*◌, ◌^◌, FitsSigned, subst, below_more, ◌<◌, ◌≤◌, List, [], ◌∷◌, length, get_or, set, drop, replicate, refl, ap, arith, sym, ◌∙◌, rules}
+use Rattle.std.proofs.Common.{◌≡◌, ◌≢◌, ℕ, suc, zero, ◌+◌, ◌*◌, ◌^◌, FitsSigned, of_z, subst, below_more, ◌<◌, ◌≤◌, List, [], ◌∷◌, length, get_or, set, drop, replicate, refl, ap, arith, sym, ◌∙◌, rules}
 use Rattle.std.specs.Prelude.{ℤ, pos, negsuc, ◌+ℤ◌, ◌-ℤ◌, ◌*ℤ◌, ◌≤ℤ◌, ◌<ℤ◌}
 use Rattle.std.specs.Int.{w128}
 use Rattle.std.specs.List.{All}
@@ -157,3 +157,56 @@ set-none_negative (y ∷ ys) (suc place) x h p =
     rest : NoneNegative (set ys place x) → (i : ℕ) → i < length (y ∷ set ys place x) → pos 0 ≤ℤ at (y ∷ set ys place x) i
     rest later zero l = h 0 (pos 0) (omega arith)
     rest later (suc i) l = later i (pos 0) (omega arith)
+
+pub replicate-none_negative : (n : ℕ) → NoneNegative (replicate n (pos 0))
+replicate-none_negative zero = λ k d l. absurd (omega arith)
+replicate-none_negative (suc n) = All-at (λ x. pos 0 ≤ℤ x) (pos 0 ∷ replicate n (pos 0)) (each (replicate-none_negative n))
+  where
+    each : NoneNegative (replicate n (pos 0)) → (i : ℕ) → i < length (pos 0 ∷ replicate n (pos 0)) → pos 0 ≤ℤ at (pos 0 ∷ replicate n (pos 0)) i
+    each rest zero l = omega (arith, ints)
+    each rest (suc i) l = rest i (pos 0) (omega arith)
+
+-- where the first of zeros is replaced
+pub zeros-sum : (n : ℕ) (t : ℤ) → 0 < n → sum_of (set (replicate n (pos 0)) 0 t) ≡ t
+zeros-sum zero t l = absurd (omega arith)
+zeros-sum (suc n) t l = omega (arith, ints, sum-zeros n)
+
+pub sum-positive : (weights : List ℤ) (sum : ℤ) → NoneNegative weights → sum ≡ sum_of weights → (of_z w128 sum ≡ 0 → ⊥) → pos 0 <ℤ sum_of weights
+sum-positive weights sum h e n = subst (λ s. pos 0 <ℤ s) e (above sum (subst (λ s. pos 0 ≤ℤ s) (sym e) (sum-none_negative weights h)) n)
+  where
+    above : (s : ℤ) → pos 0 ≤ℤ s → (of_z w128 s ≡ 0 → ⊥) → pos 0 <ℤ s
+    above (pos n) p m = omega (arith, ints, m)
+    above (negsuc n) p m = absurd (omega (arith, ints))
+
+-- what is known once the floors were taken
+pub record Taken (t : ℤ) (floors : List ℤ) : Type 0 where
+  pub none_negative : NoneNegative floors
+  pub within : sum_of floors ≤ℤ t
+  pub small : t ≤ℤ pos (2 ^ 126)
+
+pub floors-taken : (weights : List ℤ) (sum t : ℤ) (floors : List ℤ) → NoneNegative weights → pos 0 ≤ℤ t → (sum_of weights *ℤ t) ≤ℤ pos (2 ^ 126)
+    → sum ≡ sum_of weights → (of_z w128 sum ≡ 0 → ⊥) → AreFloors weights t floors → Taken t floors
+floors-taken weights sum t floors h p b e n f =
+    let some : pos 0 <ℤ sum_of weights = sum-positive weights sum h e n in
+    record {
+      none_negative = floors-none_negative weights t floors h p some f;
+      within = floors-sum weights t floors some f;
+      small = omega (arith, ints, product_le (pos 1) (sum_of weights) t p (omega (arith, ints)));
+    }
+
+pub taken_item_fits : (t : ℤ) (floors : List ℤ) (place : ℕ) → Taken t floors → place < length floors → FitsSigned w128 (at floors place)
+taken_item_fits t floors place k l = item_fits floors place k.none_negative (omega (arith, ints, k.within, k.small)) l
+
+pub missing_fits : (t : ℤ) (floors : List ℤ) → Taken t floors → FitsSigned w128 (t -ℤ sum_of floors)
+missing_fits t floors k =
+    small_fits (t -ℤ sum_of floors) (omega (arith, ints, k.within)) (omega (arith, ints, k.small, sum-none_negative floors k.none_negative))
+
+pub topped_fits : (t : ℤ) (floors : List ℤ) (place : ℕ) → Taken t floors → place < length floors → FitsSigned w128 (at floors place +ℤ (t -ℤ sum_of floors))
+topped_fits t floors place k l =
+    let item : pos 0 ≤ℤ at floors place = k.none_negative place (pos 0) l in
+    small_fits (at floors place +ℤ (t -ℤ sum_of floors)) (omega (arith, ints, item, k.within)) (omega (arith, ints, k.small, at_le_sum floors place k.none_negative l))
+
+pub topped-none_negative : (t : ℤ) (floors : List ℤ) (place : ℕ) → Taken t floors → place < length floors → NoneNegative (set floors place (at floors place +ℤ (t -ℤ sum_of floors)))
+topped-none_negative t floors place k l =
+    let item : pos 0 ≤ℤ at floors place = k.none_negative place (pos 0) l in
+    set-none_negative floors place (at floors place +ℤ (t -ℤ sum_of floors)) k.none_negative (omega (arith, ints, item, k.within))
