@@ -1,14 +1,14 @@
 -- Sums, floors and shares of lists of numbers that are not negative.
-use Rattle.std.proofs.Common.{◌≡◌, ◌≢◌, ℕ, suc, zero, ◌+◌, ◌*◌, ◌^◌, FitsSigned, of_z, subst, below_more, ◌<◌, ◌≤◌, List, [], ◌∷◌, length, get_or, set, drop, replicate, refl, ap, arith, sym, ◌∙◌, rules}
+use Rattle.std.proofs.Common.{◌≡◌, ◌≢◌, ℕ, suc, zero, ◌+◌, ◌^◌, FitsSigned, of_z, subst, below_more, ◌<◌, List, [], ◌∷◌, length, set, drop, replicate, refl, ap, arith, sym, ◌∙◌}
 use Rattle.std.specs.Prelude.{ℤ, pos, negsuc, ◌+ℤ◌, ◌-ℤ◌, ◌*ℤ◌, ◌≤ℤ◌, ◌<ℤ◌}
 use Rattle.std.specs.Int.{w128}
 use Rattle.std.specs.List.{All}
 use Rattle.std.proofs.lemmas.Int.{ints, by_lt_z}
-use Rattle.std.proofs.lemmas.List.{length-set, get_or-set_same, get_or-set_other}
+use Rattle.std.proofs.lemmas.List.{get_or-set_same, get_or-set_other}
 use borrow.Author.Differences.{product_is}
 use Rattle.scaled_num.specs.Sums.{sum_of, total, below}
 use Rattle.scaled_num.specs.Share.{at, IsFloor, AreFloors}
-use Rattle.scaled_num.proofs.Products.{le-mulℤ, mulℤ_comm, mul-addℤ, add-mulℤ}
+use Rattle.scaled_num.proofs.Products.{le-mulℤ, mulℤ_comm, add-mulℤ}
 use Rattle.scaled_num.proofs.Sums.{total-scale, total-below-le, total-places}
 
 -- no number is negative
@@ -119,29 +119,29 @@ floor_next out weights t s q place l f h = below_more _ _
 pub floors-none_negative : (weights : List ℤ) (t : ℤ) (floors : List ℤ) → NoneNegative weights → pos 0 ≤ℤ t → pos 0 <ℤ sum_of weights → AreFloors weights t floors → NoneNegative floors
 floors-none_negative weights t floors h p s f =
     All-at (λ x. pos 0 ≤ℤ x) floors (λ k l.
-      let inside : k < length weights = omega (arith, f.same_length) in
-      floor-none_negative (at floors k) (at weights k *ℤ t) (sum_of weights) (product_none_negative (at weights k) t (h k (pos 0) inside) p) s (f.floor k inside))
+    let inside : k < length weights = omega (arith, f.same_length) in
+    floor-none_negative (at floors k) (at weights k *ℤ t) (sum_of weights) (product_none_negative (at weights k) t (h k (pos 0) inside) p) s (f.floor k inside))
 
 pub floors-sum : (weights : List ℤ) (t : ℤ) (floors : List ℤ) → pos 0 <ℤ sum_of weights → AreFloors weights t floors → sum_of floors ≤ℤ t
 floors-sum weights t floors s f =
     let whole = sum_of weights in
     let count = length weights in
     let each : (total (λ i. whole *ℤ at floors i) (below count)) ≤ℤ (total (λ i. t *ℤ at weights i) (below count)) =
-      total-below-le count (λ i. whole *ℤ at floors i) (λ i. t *ℤ at weights i)
-        (λ i l. omega (arith, ints, (f.floor i l).low, mulℤ_comm whole (at floors i), mulℤ_comm t (at weights i))) in
+    total-below-le count (λ i. whole *ℤ at floors i) (λ i. t *ℤ at weights i)
+    (λ i l. omega (arith, ints, (f.floor i l).low, mulℤ_comm whole (at floors i), mulℤ_comm t (at weights i))) in
     let left : total (λ i. whole *ℤ at floors i) (below count) ≡ whole *ℤ sum_of floors =
-      total-scale whole (λ i. at floors i) (below count)
-      ∙ ap (λ (n : ℕ). whole *ℤ total (λ i. at floors i) (below n)) (sym f.same_length)
-      ∙ ap (λ z. whole *ℤ z) (total-places (λ x. x) (pos 0) floors) in
+    total-scale whole (λ i. at floors i) (below count)
+    ∙ ap (λ (n : ℕ). whole *ℤ total (λ i. at floors i) (below n)) (sym f.same_length)
+    ∙ ap (λ z. whole *ℤ z) (total-places (λ x. x) (pos 0) floors) in
     let right : total (λ i. t *ℤ at weights i) (below count) ≡ t *ℤ whole =
-      total-scale t (λ i. at weights i) (below count) ∙ ap (λ z. t *ℤ z) (total-places (λ x. x) (pos 0) weights) in
+    total-scale t (λ i. at weights i) (below count) ∙ ap (λ z. t *ℤ z) (total-places (λ x. x) (pos 0) weights) in
     cancel (sum_of floors) t whole s (omega (arith, ints, each, left, right, mulℤ_comm whole (sum_of floors)))
 
 -- the floors with what is missing added at one place
 pub topped-sum : (floors : List ℤ) (place : ℕ) (t : ℤ) → place < length floors → sum_of (set floors place (at floors place +ℤ (t -ℤ sum_of floors))) ≡ t
 topped-sum floors place t l =
     let sum : sum_of (set floors place (at floors place +ℤ (t -ℤ sum_of floors))) +ℤ at floors place ≡ sum_of floors +ℤ (at floors place +ℤ (t -ℤ sum_of floors)) =
-      sum-set floors place (at floors place +ℤ (t -ℤ sum_of floors)) l in
+    sum-set floors place (at floors place +ℤ (t -ℤ sum_of floors)) l in
     omega (arith, ints, sum)
 
 pub set-none_negative : (xs : List ℤ) (place : ℕ) (x : ℤ) → NoneNegative xs → pos 0 ≤ℤ x → NoneNegative (set xs place x)

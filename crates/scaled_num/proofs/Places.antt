@@ -1,6 +1,6 @@
 -- Decimal places as the formatter writes them.
-use Rattle.std.proofs.Common.{◌≡◌, ℕ, ◌-◌, ◌/◌, ◌%◌, List, [], ◌∷◌, ◌++◌, length, replicate, refl, ap, arith, ◌∙◌, append-nil}
-use Rattle.std.specs.Prelude.{ℤ, pos, Bool, false, Ok, Err, IfOk, int_lt, unsigned_abs, if◌then◌else◌}
+use Rattle.std.proofs.Common.{◌≡◌, ℕ, ◌-◌, ◌/◌, ◌%◌, List, [], ◌∷◌, ◌++◌, length, replicate, ap, arith, ◌∙◌, append-nil}
+use Rattle.std.specs.Prelude.{ℤ, pos, false, Ok, Err, IfOk, int_lt, unsigned_abs, if◌then◌else◌}
 use Rattle.std.specs.declared.result.Result.{Result}
 use Rattle.std.specs.Fmt.{decimal, padded_integral, char_count, format_spec}
 use Rattle.scaled_num.specs.Printed.{million, six_digits, six_places}

@@ -42,7 +42,8 @@ pub fn decimals_up(alloc: Global, value: &Fraction) -> Result<String, AllocError
 fn print_millionths(alloc: Global, count: i128) -> Result<String, AllocError>
     ensures { IfOk result (λ text. string_bytes text ≡ six_places count) }
 {
-    let sign = if count < 0 { "-" } else { "" };
+    let negative = count < 0;
+    let sign = if negative { "-" } else { "" };
     let whole = count.unsigned_abs() / MILLION.unsigned_abs();
     let rest = (count.unsigned_abs() % MILLION.unsigned_abs()) as u32;
     format!(in alloc; "{sign}{whole}.{rest:06}")

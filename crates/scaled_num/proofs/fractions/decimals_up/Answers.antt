@@ -1,6 +1,6 @@
-use Rattle.std.proofs.Common.{◌≡◌, ℤ, pos, ◌*ℤ◌, FitsSigned, to_z-of_z, rules, arith}
+use Rattle.std.proofs.Common.{ℤ, pos, ◌*ℤ◌, FitsSigned, to_z-of_z, rules, arith}
 use Rattle.std.specs.Int.{w128}
-use Rattle.std.proofs.lemmas.Int.{ints, fits_signed_mul}
+use Rattle.std.proofs.lemmas.Int.{fits_signed_mul}
 use Rattle.scaled_num.proofs.Places.{IfOk-then}
 use Rattle.scaled_num.proofs.fractions.decimals_up.Goals as goal
 

@@ -1,4 +1,4 @@
-use Rattle.std.proofs.Common.{◌≡◌, ◌^◌, ℤ, pos, ◌+ℤ◌, ◌≤ℤ◌, ◌<◌, ℕ, List, length, drop, get_or, FitsSigned, to_z, to_z-of_z}
+use Rattle.std.proofs.Common.{ℤ, pos, ◌+ℤ◌, ℕ, List, get_or, FitsSigned, to_z, to_z-of_z}
 use Rattle.std.specs.Int.{w128}
 use Rattle.scaled_num.proofs.Floors.{item_fits, add_next}
 use Rattle.scaled_num.proofs.shares.add_up.Goals as goal

@@ -1,8 +1,8 @@
-use Rattle.std.proofs.Common.{◌≡◌, ◌^◌, ◌*ℤ◌, ◌≤ℤ◌, ◌<◌, ℤ, ℕ, pos, List, length, get_or, FitsSigned, to_z-of_z, subst, sym, arith, rules, length-set, ◌∙◌}
+use Rattle.std.proofs.Common.{◌^◌, ◌*ℤ◌, ◌≤ℤ◌, ℤ, ℕ, pos, List, get_or, FitsSigned, to_z-of_z, subst, arith, rules, length-set, ◌∙◌}
 use Rattle.std.specs.Int.{w128}
 use Rattle.scaled_num.specs.Sums.{sum_of}
 use Rattle.scaled_num.specs.Share.{at, IsFloor}
-use Rattle.scaled_num.proofs.Floors.{item_fits, weighted_fits, floor_next}
+use Rattle.scaled_num.proofs.Floors.{weighted_fits, floor_next}
 use Rattle.scaled_num.proofs.shares.take_floors.Goals as goal
 
 pub overflow_mul-weight : goal.overflow_mul-weight

@@ -1,10 +1,9 @@
-use Rattle.std.proofs.Common.{◌≡◌, refl, ◌^◌, ◌<◌, pos, ◌*ℤ◌, ◌+ℤ◌, ◌-ℤ◌, ◌≤ℤ◌, ◌<ℤ◌, length, rules, ℕ, List, ℤ, FitsSigned, to_z, of_z, to_z-of_z, arith, sym, subst, set, replicate, ap, ◌∙◌}
+use Rattle.std.proofs.Common.{◌≡◌, refl, ◌<◌, pos, ◌+ℤ◌, ◌-ℤ◌, ◌<ℤ◌, length, rules, ℕ, List, ℤ, FitsSigned, to_z-of_z, arith, sym, subst, set, replicate, ap, ◌∙◌}
 use Rattle.std.specs.Int.{w128}
-use Rattle.std.proofs.lemmas.Grind.{common_steps}
 use Rattle.std.proofs.lemmas.Int.{ints}
 use Rattle.scaled_num.specs.Sums.{sum_of}
 use Rattle.scaled_num.specs.Share.{at, AreFloors}
-use Rattle.scaled_num.proofs.Floors.{NoneNegative, Taken, floors-taken, missing_fits, topped_fits, taken_item_fits, topped-sum, topped-none_negative, replicate-none_negative, set-none_negative, zeros-sum, sum-positive, sum-none_negative}
+use Rattle.scaled_num.proofs.Floors.{NoneNegative, Taken, floors-taken, missing_fits, topped_fits, taken_item_fits, topped-sum, topped-none_negative, replicate-none_negative, set-none_negative, zeros-sum, sum-positive}
 use Rattle.scaled_num.proofs.shares.take_share.Goals as goal
 
 pub returns-then-sum-eq0-clause-whole : goal.returns-then-sum-eq0-clause-whole
