@@ -14,7 +14,7 @@ returns-then-rest-lt0-clause-low c =
     let below : unsigned_abs (int_rem a b) < unsigned_abs b = rem_below a b (omega (arith, ints)) in
     let sum : int_div a b *ℤ b +ℤ int_rem a b ≡ a = quot-rem a b in
     let fr : FitsSigned w128 (int_rem a b) = fits_signed_from_abs w128 (int_rem a b) (omega (arith, ints)) in
-    let sign : (int_rem a b) <ℤ pos 0 = (let t = simp to_z-of_z at c.if-rest-lt0.true in omega (arith, ints)) in
+    let sign : (int_rem a b) <ℤ pos 0 = grind (arith, to_z-of_z, ints, c.if-rest-lt0.true) in
     let fs : FitsSigned w128 (int_div a b -ℤ pos 1) = less_fits a b (int_div a b) (int_rem a b) sum below c.requires sign fa fq in
     simp to_z-of_z ((down_then a b (int_div a b) (int_rem a b) sum below c.requires sign).0)
 
@@ -28,7 +28,7 @@ returns-then-rest-lt0-clause-high c =
     let below : unsigned_abs (int_rem a b) < unsigned_abs b = rem_below a b (omega (arith, ints)) in
     let sum : int_div a b *ℤ b +ℤ int_rem a b ≡ a = quot-rem a b in
     let fr : FitsSigned w128 (int_rem a b) = fits_signed_from_abs w128 (int_rem a b) (omega (arith, ints)) in
-    let sign : (int_rem a b) <ℤ pos 0 = (let t = simp to_z-of_z at c.if-rest-lt0.true in omega (arith, ints)) in
+    let sign : (int_rem a b) <ℤ pos 0 = grind (arith, to_z-of_z, ints, c.if-rest-lt0.true) in
     let fs : FitsSigned w128 (int_div a b -ℤ pos 1) = less_fits a b (int_div a b) (int_rem a b) sum below c.requires sign fa fq in
     simp to_z-of_z ((down_then a b (int_div a b) (int_rem a b) sum below c.requires sign).1)
 
@@ -42,5 +42,5 @@ returns-else-rest-lt0-clause-low c =
     let below : unsigned_abs (int_rem a b) < unsigned_abs b = rem_below a b (omega (arith, ints)) in
     let sum : int_div a b *ℤ b +ℤ int_rem a b ≡ a = quot-rem a b in
     let fr : FitsSigned w128 (int_rem a b) = fits_signed_from_abs w128 (int_rem a b) (omega (arith, ints)) in
-    let sign : pos 0 ≤ℤ (int_rem a b) = (let t = simp to_z-of_z at c.if-rest-lt0.false in omega (arith, ints)) in
+    let sign : pos 0 ≤ℤ (int_rem a b) = grind (arith, to_z-of_z, ints, c.if-rest-lt0.false) in
     simp to_z-of_z ((down_else a b (int_div a b *ℤ b) (int_rem a b) sum below c.requires sign).0)
