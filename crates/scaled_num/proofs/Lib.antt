@@ -5,3 +5,4 @@ pub mod Quotient
 pub mod Places
 pub mod Divisors
 pub mod Floors
+pub mod Same
