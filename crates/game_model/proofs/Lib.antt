@@ -4,3 +4,9 @@ pub mod Lower
 pub mod Rows
 pub mod Family
 pub mod Example
+pub mod Sizes
+pub mod Width
+pub mod Divisor
+pub mod Games
+pub mod Ceil
+pub mod Entries
