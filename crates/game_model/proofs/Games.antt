@@ -50,6 +50,9 @@ row-sum-abs shape row each =
     (each-from (IsLanding shape) (λ (l : Landing). l.weight ≡ pos (unsigned_abs l.weight)) row (λ l i. weight-abs l.weight i.weight.0) each)
     ∙ total-pos (λ (l : Landing). unsigned_abs l.weight) row
 
+pub row-sum-low : (shape : Shape) (row : List Landing) → AllByRecursion (IsLanding shape) row → pos 0 ≤ℤ (row_sum row)
+row-sum-low shape row each = subst (λ (x : ℤ). pos 0 ≤ℤ x) (sym (row-sum-abs shape row each)) (omega (arith, ints))
+
 pub row-weights : (shape : Shape) (row : List Landing) → IsRow shape row → sum_by (λ (l : Landing). unsigned_abs l.weight) row ≡ unsigned_abs shape.row_total
 row-weights shape row h = ap unsigned_abs (sym (row-sum-abs shape row h.each) ∙ h.sums)
 

@@ -10,3 +10,4 @@ pub mod Divisor
 pub mod Games
 pub mod Ceil
 pub mod Entries
+pub mod Front

@@ -1,7 +1,9 @@
 -- The width rule, and how large products under it are.
-use Rattle.std.proofs.Common.{◌≡◌, ℕ, ◌+◌, ◌*◌, ◌^◌, ◌<◌, ◌≤◌, max, ap, arith, sym, ◌∙◌, mul-le-mul}
+use Rattle.std.proofs.Common.{rules, ◌≡◌, ℕ, ◌+◌, ◌*◌, ◌^◌, ◌<◌, ◌≤◌, max, ap, arith, sym, ◌∙◌, mul-le-mul}
 use Rattle.std.specs.Prelude.{ℤ, pos, ◌+ℤ◌, ◌*ℤ◌, ◌≤ℤ◌, ◌<ℤ◌, neg_ℤ, FitsSigned, unsigned_abs}
 use Rattle.std.specs.Int.{w128, int_max}
+use Rattle.std.specs.Int.Signed.{le_z}
+use Rattle.std.specs.Bool.{IsTrue}
 use Rattle.std.proofs.lemmas.Int.{ints, clamps, fits_signed_from_abs, unsigned_abs-mul}
 use Rattle.std.proofs.lemmas.Nat.{mul-le}
 use Rattle.game_model.specs.Game.{IsWithin, IsRewardInRange}
@@ -41,3 +43,13 @@ reward_small r h = let low = h.0 in let high = h.1 in omega (arith, ints)
 
 pub reward_fits : (r : ℤ) → IsRewardInRange r → FitsSigned w128 (pos (unsigned_abs r))
 reward_fits r h = fits_signed_from_abs w128 (pos (unsigned_abs r)) (omega (arith, reward_small r h))
+
+-- the test of an order
+pub at_most : (a b : ℤ) → (IsTrue (le_z a b) → a ≤ℤ b) × (a ≤ℤ b → IsTrue (le_z a b))
+at_most a b = search rules
+
+-- the sum of a row with one more weight fits
+pub filled_fits : (filled weight most : ℤ) → pos 0 ≤ℤ filled → pos 1 ≤ℤ weight → weight ≤ℤ most → filled ≤ℤ most → most ≤ℤ pos (2 ^ 30) → FitsSigned w128 (filled +ℤ weight)
+filled_fits filled weight most from low high left small =
+    let size : unsigned_abs (filled +ℤ weight) ≤ 2 ^ 31 = omega (arith, ints) in
+    fits_signed_from_abs w128 (filled +ℤ weight) (omega arith)

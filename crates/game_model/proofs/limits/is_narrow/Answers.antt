@@ -4,11 +4,8 @@ use Rattle.std.specs.Bool.{IsTrue}
 use Rattle.std.specs.Int.{w128}
 use Rattle.std.specs.Int.Signed.{le_z}
 use Rattle.std.proofs.lemmas.Int.{ints, to_z-of_z}
-use Rattle.game_model.proofs.Width.{width-fits, greater_small}
+use Rattle.game_model.proofs.Width.{width-fits, greater_small, at_most}
 use Rattle.game_model.proofs.limits.is_narrow.Goals as goal
-
-at_most : (a b : ℤ) → (IsTrue (le_z a b) → a ≤ℤ b) × (a ≤ℤ b → IsTrue (le_z a b))
-at_most a b = search rules
 
 pub overflow_mul-result-2 : goal.overflow_mul-result-2
 overflow_mul-result-2 c =
