@@ -11,3 +11,6 @@ pub mod Games
 pub mod Ceil
 pub mod Entries
 pub mod Front
+pub mod Worth
+pub mod Expected
+pub mod Least

@@ -112,3 +112,8 @@ abbrev pub HasFractions : Shape → Type 0
 HasFractions shape =
     IsWithin (pos 1) (pos (2 ^ 30)) shape.row_total
     × ((pos 0 ≤ℤ shape.discount.0) × (shape.discount.0 <ℤ shape.discount.1) × (shape.discount.1 ≤ℤ pos (2 ^ 20)))
+
+-- the least of the first n values of f
+pub record IsLeastOf (f : ℕ → ℤ) (n : ℕ) (x : ℤ) : Type 0 where
+  pub each : (k : ℕ) → k < n → x ≤ℤ f k
+  pub some : (k : ℕ) × (k < n) × (x ≡ f k)
