@@ -7,6 +7,8 @@ mod laws;
 mod limits;
 mod parts;
 mod seeds;
+#[cfg(test)]
+mod tests;
 
 pub use accepted::{Game, law_game};
 pub use builder::{GameBuilder, GameFault};
