@@ -6,3 +6,13 @@ pub mod Family
 pub mod Example
 pub mod SeedVectors
 pub mod Plays
+pub mod Sizes
+pub mod Width
+pub mod Divisor
+pub mod Games
+pub mod Ceil
+pub mod Entries
+pub mod Front
+pub mod Worth
+pub mod Expected
+pub mod Least
