@@ -6,7 +6,7 @@ use Rattle.game_model.specs.declared.parts.Landing.{Landing}
 use Rattle.game_model.specs.Game.{triples}
 use Rattle.game_text.specs.declared.fault.Kind.{Kind}
 use Rattle.game_text.specs.declared.fault.Kind.TheVariants as kinds
-use Rattle.game_text.specs.Forms.{◌>>=◌, require, number_at, limited, within, below_limit, numbers_after, begins, is_version, most_total, is_discount, are_weights, is_belief_total, is_next, is_full, is_narrow, is_later, is_room}
+use Rattle.game_text.specs.Forms.{◌>>=◌, number_at, limited, within, below_limit, numbers_after, begins, version_line, most_total, discount_within, weights_within, total_within, next_triple, full_row, narrow_reward, later_pair, fits_row}
 
 -- what a line says
 pub data Entry : Type 0 where
@@ -47,7 +47,7 @@ pair_in _ = None
 
 unfoldable pub version_said : Line → Result Entry Kind
 version_said line = do
-  _ ← require (is_version line) kinds.Version
+  _ ← version_line line
   Ok Version
 
 unfoldable pub size_said : Line → Result Entry Kind
@@ -68,14 +68,14 @@ total_said line = do
 unfoldable pub discount_said : Line → Result Entry Kind
 discount_said line = do
   ns ← numbers_after (codes "discount") 2 line
-  _ ← require (is_discount (number_at ns 0) (number_at ns 1)) kinds.Range
-  Ok (Discount (number_at ns 0) (number_at ns 1))
+  discount ← discount_within (number_at ns 0) (number_at ns 1)
+  Ok (Discount discount.0 discount.1)
 
 unfoldable pub first_said : ℕ → Line → Result Entry Kind
 first_said states line = do
   ns ← numbers_after (codes "first") states line
-  _ ← require (are_weights ns) kinds.Range
-  _ ← require (is_belief_total ns) kinds.Belief
+  _ ← weights_within ns
+  _ ← total_within ns
   Ok (First ns)
 
 -- a `step` line, where so many were begun, the last of which has this sum
@@ -86,9 +86,9 @@ step_said shape begun sum line = do
   a ← below_limit shape.own_actions (number_at ns 1)
   c ← below_limit shape.informed_actions (number_at ns 2)
   reward ← limited (neg_ℤ (pos most_total)) (pos most_total) (number_at ns 3)
-  _ ← require (is_next shape begun s a c) kinds.Order
-  _ ← require (is_full shape begun sum) kinds.Total
-  _ ← require (is_narrow shape reward) kinds.Wide
+  _ ← next_triple shape begun s a c
+  _ ← full_row shape begun sum
+  _ ← narrow_reward shape reward
   Ok (Step s a c reward)
 
 -- an `out` line, in a row of this sum, after an `out` line of this pair
@@ -98,14 +98,14 @@ out_said shape sum pair line = do
   seen ← below_limit shape.observations (number_at ns 0)
   to ← below_limit shape.states (number_at ns 1)
   weight ← limited (pos 1) shape.row_total (number_at ns 2)
-  _ ← require (is_later pair seen to) kinds.Order
-  _ ← require (is_room shape sum weight) kinds.Total
+  _ ← later_pair pair seen to
+  _ ← fits_row shape sum weight
   Ok (Out (record { seen = seen; to = to; weight = weight }))
 
 unfoldable pub end_said : Shape → ℕ → ℤ → Line → Result Entry Kind
 end_said shape begun sum line = do
   _ ← numbers_after (codes "end") 0 line
-  _ ← require (is_full shape begun sum) kinds.Total
+  _ ← full_row shape begun sum
   Ok End
 
 -- the next row's `step` line, or `end` where all were begun

@@ -15,10 +15,6 @@ abbrev pub ◌>>=◌ : {A B : Type 0} → Result A Kind → (A → Result B Kind
 (Ok x) >>= f = f x
 (Err e) >>= f = Err e
 
--- the test holds, or this is the kind
-abbrev pub require : Bool → Kind → Result (Unit {0}) Kind
-require holds kind = if holds then Ok tt else Err kind
-
 abbrev pub number_at : List ℤ → ℕ → ℤ
 number_at numbers i = slice_index_or numbers i (pos 0)
 
@@ -52,11 +48,12 @@ begins name [] = false
 begins name (word ∷ words) = bytes_eq word name
 
 -- the line is `osposg 1`
-abbrev pub is_version : Line → Bool
-is_version [] = false
-is_version (name ∷ []) = false
-is_version (name ∷ number ∷ []) = bytes_eq name (codes "osposg") && bytes_eq number (codes "1")
-is_version (name ∷ number ∷ more ∷ words) = false
+unfoldable pub version_line : Line → Result (Unit {0}) Kind
+version_line [] = Err kinds.Version
+version_line (name ∷ []) = Err kinds.Version
+version_line (name ∷ number ∷ []) =
+    if bytes_eq name (codes "osposg") && bytes_eq number (codes "1") then Ok tt else Err kinds.Version
+version_line (name ∷ number ∷ more ∷ words) = Err kinds.Version
 
 -- the greatest row total and magnitude of a reward, and the greatest weight of a first belief
 abbrev pub most_total : ℕ
@@ -65,15 +62,17 @@ most_total = 1073741824
 abbrev pub most_weight : ℕ
 most_weight = 1048576
 
-abbrev pub is_discount : ℤ → ℤ → Bool
-is_discount over under = int_le (pos 0) over && int_lt over under && int_le under (pos most_weight)
+-- a discount: 0 <= over < under <= 2^20
+unfoldable pub discount_within : ℤ → ℤ → Result (ℤ × ℤ) Kind
+discount_within over under =
+    if int_le (pos 0) over && int_lt over under && int_le under (pos most_weight) then Ok (over, under) else Err kinds.Range
 
 -- each weight of the first belief is in its limits, and their total is
-abbrev pub are_weights : List ℤ → Bool
-are_weights weights = list_all (is_within (pos 0) (pos most_weight)) weights
+unfoldable pub weights_within : List ℤ → Result (Unit {0}) Kind
+weights_within weights = if list_all (is_within (pos 0) (pos most_weight)) weights then Ok tt else Err kinds.Range
 
-abbrev pub is_belief_total : List ℤ → Bool
-is_belief_total weights = is_within (pos 1) (pos most_weight) (sum_of weights)
+unfoldable pub total_within : List ℤ → Result (Unit {0}) Kind
+total_within weights = if is_within (pos 1) (pos most_weight) (sum_of weights) then Ok tt else Err kinds.Belief
 
 -- the triple of this number, in rising order
 abbrev pub state_at : Shape → ℕ → ℕ
@@ -86,23 +85,26 @@ abbrev pub informed_at : Shape → ℕ → ℕ
 informed_at shape k = k % shape.informed_actions
 
 -- the triple is the next one, where so many were begun
-abbrev pub is_next : Shape → ℕ → ℕ → ℕ → ℕ → Bool
-is_next shape begun s a c = (s == state_at shape begun) && (a == own_at shape begun) && (c == informed_at shape begun)
+unfoldable pub next_triple : Shape → ℕ → ℕ → ℕ → ℕ → Result (Unit {0}) Kind
+next_triple shape begun s a c =
+    if (s == state_at shape begun) && (a == own_at shape begun) && (c == informed_at shape begun) then Ok tt else Err kinds.Order
 
 -- no row was begun, or the weights of the last one sum to the row total
-abbrev pub is_full : Shape → ℕ → ℤ → Bool
-is_full shape begun sum = (begun == 0) || is_within shape.row_total shape.row_total sum
+unfoldable pub full_row : Shape → ℕ → ℤ → Result (Unit {0}) Kind
+full_row shape begun sum =
+    if (begun == 0) || is_within shape.row_total shape.row_total sum then Ok tt else Err kinds.Total
 
 -- the width rule: D * Q * Q * max(1, |r|) <= 2^72
-abbrev pub is_narrow : Shape → ℤ → Bool
-is_narrow shape reward =
-    int_le (shape.row_total *ℤ shape.discount.1 *ℤ shape.discount.1 *ℤ pos (max 1 (unsigned_abs reward))) (pos (2 ^ 72))
+unfoldable pub narrow_reward : Shape → ℤ → Result (Unit {0}) Kind
+narrow_reward shape reward =
+    if int_le (shape.row_total *ℤ shape.discount.1 *ℤ shape.discount.1 *ℤ pos (max 1 (unsigned_abs reward))) (pos (2 ^ 72)) then Ok tt else Err kinds.Wide
 
 -- the pair is greater than that of the `out` line just before, where there is one
-abbrev pub is_later : Option (ℕ × ℕ) → ℕ → ℕ → Bool
-is_later None seen to = true
-is_later (Some pair) seen to = nat_lt pair.0 seen || ((pair.0 == seen) && nat_lt pair.1 to)
+unfoldable pub later_pair : Option (ℕ × ℕ) → ℕ → ℕ → Result (Unit {0}) Kind
+later_pair None seen to = Ok tt
+later_pair (Some pair) seen to =
+    if nat_lt pair.0 seen || ((pair.0 == seen) && nat_lt pair.1 to) then Ok tt else Err kinds.Order
 
 -- the row's sum stays within the row total
-abbrev pub is_room : Shape → ℤ → ℤ → Bool
-is_room shape sum weight = int_le (sum +ℤ weight) shape.row_total
+unfoldable pub fits_row : Shape → ℤ → ℤ → Result (Unit {0}) Kind
+fits_row shape sum weight = if int_le (sum +ℤ weight) shape.row_total then Ok tt else Err kinds.Total

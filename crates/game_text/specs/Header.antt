@@ -19,9 +19,6 @@ pub record AreSizes (sizes : Sizes) : Type 0 where
   pub informed_actions : (1 ≤ sizes.informed_actions) × (sizes.informed_actions ≤ 6)
   pub observations : (1 ≤ sizes.observations) × (sizes.observations ≤ 8)
 
-abbrev pub IsDiscount : (ℤ × ℤ) → Type 0
-IsDiscount discount = (pos 0 ≤ℤ discount.0) × (discount.0 <ℤ discount.1) × (discount.1 ≤ℤ pos 1048576)
-
 -- the fault is the first refused line with its least kind, or want of memory
 abbrev pub IsFaultOf : List Line → TextFault → Type 0
 IsFaultOf lines (text.Line number kind) = Refuses lines number kind

@@ -6,3 +6,4 @@ pub mod Reading
 pub mod Laws
 pub mod Place
 pub mod Header
+pub mod Limits

@@ -1,9 +1,9 @@
-ghost use Rattle.std.specs.Prelude.{◌≡◌, ◌≤◌, ◌<◌, length, map, IfOk, All, pos, ◌≤ℤ◌};
-ghost use Rattle.std.specs.Bool.{OnTrue};
+ghost use Rattle.std.specs.Prelude.{◌≡◌, ◌≤◌, ◌<◌, length, map, IfOk, OnOk, All, pos, ◌≤ℤ◌};
 ghost use Rattle.text_words.specs.Numbers.{numbers_of};
 ghost use Rattle.scaled_num.specs.Sums.{sum_of};
+ghost use Rattle.game_text.specs.Limits.{IsDiscount};
 ghost use Rattle.game_text.specs.Fault.{Gives};
-ghost use Rattle.game_text.specs.Forms.{require, begins, is_within, limited, within, below_limit, is_version, is_discount, are_weights, is_belief_total, numbers_after, numbers_said};
+ghost use Rattle.game_text.specs.Forms.{begins, is_within, limited, within, below_limit, version_line, discount_within, weights_within, total_within, numbers_after, numbers_said};
 
 use crate::fault::{Kind, LineFault};
 use std::alloc::Global;
@@ -13,16 +13,6 @@ pub const MOST_TOTAL: i128 = 1 << 30;
 
 /// The greatest weight of a first belief, its greatest total, and the greatest denominator of a discount.
 const MOST_WEIGHT: i128 = 1 << 20;
-
-/// The test holds, or this is the kind.
-pub fn require(holds: bool, kind: Kind) -> Result<(), Kind>
-    ensures { result ≡ require holds kind }
-{
-    if !holds {
-        return Err(kind);
-    }
-    Ok(())
-}
 
 /// The numbers of words that are all number words.
 fn numbers(alloc: Global, words: &[&[u8]]) -> Result<Vec<i128>, LineFault>
@@ -64,13 +54,14 @@ pub fn begins(name: &[u8], words: &[&[u8]]) -> bool
     }
 }
 
-/// Whether the line is `osposg 1`.
-pub fn is_version(words: &[&[u8]]) -> bool
-    ensures { result ≡ is_version (map (λ word. word.now) words.now) }
+/// The line is `osposg 1`.
+#[tactic(auto, unfolding(crate::specs::Forms::version_line))]
+pub fn version(words: &[&[u8]]) -> Result<(), Kind>
+    ensures { result ≡ version_line (map (λ word. word.now) words.now) }
 {
     match words {
-        [name, number] => *name == b"osposg".as_slice() && *number == b"1".as_slice(),
-        _ => false,
+        [name, number] if *name == b"osposg".as_slice() && *number == b"1".as_slice() => Ok(()),
+        _ => Err(Kind::Version),
     }
 }
 
@@ -116,29 +107,45 @@ pub fn below_limit(limit: u32, number: i128) -> Result<u32, Kind>
     within(0, limit - 1, number)
 }
 
-pub fn is_discount(over: i128, under: i128) -> bool
-    ensures { result ≡ is_discount over under }
+/// A discount: `0 <= over < under <= 2^20`.
+#[tactic(auto, unfolding(crate::specs::Forms::discount_within))]
+pub fn discount_within(over: i128, under: i128) -> Result<(i128, i128), Kind>
+    ensures value { result ≡ discount_within over under }
+    ensures limits { IfOk result IsDiscount }
 {
-    0 <= over && over < under && under <= MOST_WEIGHT
+    if over < 0 || over >= under || under > MOST_WEIGHT {
+        return Err(Kind::Range);
+    }
+    Ok((over, under))
 }
 
-/// Whether each weight of a first belief is in its limits.
-pub fn are_weights(weights: &[i128]) -> bool
-    ensures value { result ≡ are_weights weights.now }
-    ensures small { OnTrue result (All (λ n. (pos 0 ≤ℤ n) × (n ≤ℤ pos 1048576)) weights.now) }
+/// Each weight of a first belief is in its limits.
+#[tactic(auto, unfolding(crate::specs::Forms::weights_within))]
+pub fn weights_within(weights: &[i128]) -> Result<(), Kind>
+    ensures kind { result ≡ weights_within weights.now }
+    ensures small { OnOk result (All (λ n. (pos 0 ≤ℤ n) × (n ≤ℤ pos 1048576)) weights.now) }
 {
-    weights
+    if !weights
         .iter()
         .all(|weight| is_within(0, MOST_WEIGHT, *weight))
+    {
+        return Err(Kind::Range);
+    }
+    Ok(())
 }
 
-/// Whether the total of the weights is in its limits.
-pub fn is_belief_total(weights: &[i128]) -> bool
+/// The total of the weights is in its limits.
+#[tactic(auto, unfolding(crate::specs::Forms::total_within))]
+pub fn total_within(weights: &[i128]) -> Result<(), Kind>
     requires few { length weights.now ≤ 16 }
     requires small { All (λ n. (pos 0 ≤ℤ n) × (n ≤ℤ pos 1048576)) weights.now }
-    ensures { result ≡ is_belief_total weights.now }
+    ensures { result ≡ total_within weights.now }
 {
-    is_within(1, MOST_WEIGHT, sum(weights))
+    let total = sum(weights);
+    if !is_within(1, MOST_WEIGHT, total) {
+        return Err(Kind::Belief);
+    }
+    Ok(())
 }
 
 /// The sum of small numbers.

@@ -6,6 +6,7 @@ mod forms;
 mod header;
 mod laws;
 mod place;
+mod read;
 mod rows;
 
 pub use fault::{Kind, TextFault};

@@ -1,12 +1,12 @@
-ghost use Rattle.std.specs.Prelude.{◌≡◌, ◌≤◌, ◌<◌, ◌^◌, length, map, IfOk, ℤ, pos, ◌≤ℤ◌, ◌+ℤ◌, neg_ℤ};
+ghost use Rattle.std.specs.Prelude.{◌≡◌, ◌≤◌, ◌<◌, ◌^◌, length, map, IfOk, OnOk, pos, ◌≤ℤ◌, ◌+ℤ◌, ◌*ℤ◌, neg_ℤ, max, unsigned_abs};
 ghost use Rattle.game_model.specs.Game.{IsShape, triples};
 ghost use Rattle.game_text.specs.Fault.{Gives};
-ghost use Rattle.game_text.specs.Forms.{is_next, is_full, is_narrow, is_later, is_room};
+ghost use Rattle.game_text.specs.Forms.{next_triple, full_row, narrow_reward, later_pair, fits_row};
 ghost use Rattle.game_text.specs.Entries.{step_said, out_said, end_said, row_end_said};
 ghost use Rattle.game_text.specs.Place.{IsPlace, FitsPlace, entry_in, pair_of, row_said};
 
 use crate::fault::{Kind, LineFault};
-use crate::forms::{MOST_TOTAL, begins, below_limit, limited, numbers_after, require};
+use crate::forms::{MOST_TOTAL, begins, below_limit, limited, numbers_after};
 use crate::place::{Latest, Place, RowEntry};
 use game_model::{Landing, Shape};
 use std::alloc::Global;
@@ -14,54 +14,83 @@ use std::alloc::Global;
 /// The greatest product of the width rule.
 const MOST_WIDTH: i128 = 1 << 72;
 
-/// Whether the triple is the next one, where so many were begun.
-fn is_next(shape: Shape, begun: u32, state: u32, own: u32, informed: u32) -> bool
+/// The triple is the next one, where so many were begun.
+#[tactic(auto, unfolding(crate::specs::Forms::next_triple))]
+fn next_triple(shape: Shape, begun: u32, state: u32, own: u32, informed: u32) -> Result<(), Kind>
     requires { IsShape shape }
-    ensures { result ≡ is_next shape begun state own informed }
+    ensures { result ≡ next_triple shape begun state own informed }
 {
     let round = begun / shape.informed_actions;
-    state == round / shape.own_actions
+    if state == round / shape.own_actions
         && own == round % shape.own_actions
         && informed == begun % shape.informed_actions
-}
-
-/// Whether no row was begun, or the weights of the last one sum to the row total.
-fn is_full(shape: Shape, begun: u32, sum: i128) -> bool
-    ensures { result ≡ is_full shape begun sum }
-{
-    begun == 0 || (shape.row_total <= sum && sum <= shape.row_total)
-}
-
-/// Whether the width rule holds.
-fn is_narrow(shape: Shape, reward: i128) -> bool
-    requires shape { IsShape shape }
-    requires low { (neg_ℤ (pos 1073741824)) ≤ℤ reward }
-    requires high { reward ≤ℤ pos 1073741824 }
-    ensures { result ≡ is_narrow shape reward }
-{
-    let under = shape.discount.1;
-    let magnitude = reward.abs().max(1);
-    shape.row_total * under * under * magnitude <= MOST_WIDTH
-}
-
-/// Whether the pair is greater than that of an `out` line just before.
-fn is_later(latest: Latest, seen: u32, to: u32) -> bool
-    ensures { result ≡ is_later (pair_of latest) seen to }
-{
-    match latest {
-        Latest::Pair(o, t) => o < seen || (o == seen && t < to),
-        _ => true,
+    {
+        Ok(())
+    } else {
+        Err(Kind::Order)
     }
 }
 
-/// Whether the row's sum stays within the row total.
-fn is_room(place: &Place, weight: i128) -> bool
+/// No row was begun, or the weights of the last one sum to the row total.
+#[tactic(auto, unfolding(crate::specs::Forms::full_row))]
+fn full_row(shape: Shape, begun: u32, sum: i128) -> Result<(), Kind>
+    ensures { result ≡ full_row shape begun sum }
+{
+    if begun != 0 && (sum < shape.row_total || sum > shape.row_total) {
+        return Err(Kind::Total);
+    }
+    Ok(())
+}
+
+/// The width of a reward: `D * Q * Q * max(1, |r|)`.
+fn width(shape: Shape, reward: i128) -> i128
+    requires shape { IsShape shape }
+    requires low { (neg_ℤ (pos 1073741824)) ≤ℤ reward }
+    requires high { reward ≤ℤ pos 1073741824 }
+    ensures { result ≡ shape.row_total *ℤ shape.discount.1 *ℤ shape.discount.1 *ℤ pos (max 1 (unsigned_abs reward)) }
+{
+    let under = shape.discount.1;
+    shape.row_total * under * under * reward.abs().max(1)
+}
+
+/// The width rule holds.
+#[tactic(auto, unfolding(crate::specs::Forms::narrow_reward))]
+fn narrow_reward(shape: Shape, reward: i128) -> Result<(), Kind>
+    requires shape { IsShape shape }
+    requires low { (neg_ℤ (pos 1073741824)) ≤ℤ reward }
+    requires high { reward ≤ℤ pos 1073741824 }
+    ensures { result ≡ narrow_reward shape reward }
+{
+    if width(shape, reward) > MOST_WIDTH {
+        return Err(Kind::Wide);
+    }
+    Ok(())
+}
+
+/// The pair is greater than that of an `out` line just before.
+#[tactic(auto, unfolding(crate::specs::Forms::later_pair))]
+fn later_pair(latest: Latest, seen: u32, to: u32) -> Result<(), Kind>
+    ensures { result ≡ later_pair (pair_of latest) seen to }
+{
+    match latest {
+        Latest::Pair(o, t) if (o, t) >= (seen, to) => Err(Kind::Order),
+        _ => Ok(()),
+    }
+}
+
+/// The row's sum stays within the row total.
+#[tactic(auto, unfolding(crate::specs::Forms::fits_row))]
+fn fits_row(place: &Place, weight: i128) -> Result<(), Kind>
     requires place { IsPlace place.now }
     requires low { pos 0 ≤ℤ weight }
     requires high { weight ≤ℤ place.now.shape.row_total }
-    ensures value { result ≡ is_room place.now.shape place.now.sum weight }
+    ensures kind { result ≡ fits_row place.now.shape place.now.sum weight }
+    ensures fits { OnOk result ((place.now.sum +ℤ weight) ≤ℤ place.now.shape.row_total) }
 {
-    place.sum + weight <= place.shape.row_total
+    if place.sum + weight > place.shape.row_total {
+        return Err(Kind::Total);
+    }
+    Ok(())
 }
 
 #[tactic(auto, unfolding(crate::specs::Entries::step_said))]
@@ -76,9 +105,9 @@ fn step_line(alloc: Global, place: &Place, words: &[&[u8]]) -> Result<RowEntry, 
     let own = below_limit(shape.own_actions, numbers[1])?;
     let informed = below_limit(shape.informed_actions, numbers[2])?;
     let reward = limited(-MOST_TOTAL, MOST_TOTAL, numbers[3])?;
-    require(is_next(shape, place.begun, state, own, informed), Kind::Order)?;
-    require(is_full(shape, place.begun, place.sum), Kind::Total)?;
-    require(is_narrow(shape, reward), Kind::Wide)?;
+    next_triple(shape, place.begun, state, own, informed)?;
+    full_row(shape, place.begun, place.sum)?;
+    narrow_reward(shape, reward)?;
     Ok(RowEntry::Step {
         state,
         own,
@@ -97,8 +126,8 @@ fn out_line(alloc: Global, place: &Place, words: &[&[u8]]) -> Result<RowEntry, L
     let seen = below_limit(place.shape.observations, numbers[0])?;
     let to = below_limit(place.shape.states, numbers[1])?;
     let weight = limited(1, place.shape.row_total, numbers[2])?;
-    require(is_later(place.latest, seen, to), Kind::Order)?;
-    require(is_room(place, weight), Kind::Total)?;
+    later_pair(place.latest, seen, to)?;
+    fits_row(place, weight)?;
     Ok(RowEntry::Out(Landing { seen, to, weight }))
 }
 
@@ -108,7 +137,7 @@ fn end_line(alloc: Global, place: &Place, words: &[&[u8]]) -> Result<RowEntry, L
     ensures fits { IfOk result (FitsPlace place.now) }
 {
     numbers_after(alloc, words, b"end", 0)?;
-    require(is_full(place.shape, place.begun, place.sum), Kind::Total)?;
+    full_row(place.shape, place.begun, place.sum)?;
     Ok(RowEntry::End)
 }
 
