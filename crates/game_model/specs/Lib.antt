@@ -4,3 +4,4 @@ pub mod Play
 pub mod Laws
 pub mod Game
 pub mod Seeds
+pub mod Build
