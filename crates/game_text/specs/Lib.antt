@@ -7,3 +7,4 @@ pub mod Laws
 pub mod Place
 pub mod Header
 pub mod Limits
+pub mod Answers
