@@ -28,9 +28,9 @@ limited low high number = if is_within low high number then Ok number else Err k
 unfoldable pub within : ℕ → ℕ → ℤ → Result ℕ Kind
 within low high number = if is_within (pos low) (pos high) number then Ok (unsigned_abs number) else Err kinds.Range
 
--- a number below a limit, which is at least 1
+-- a number below a limit
 unfoldable pub below_limit : ℕ → ℤ → Result ℕ Kind
-below_limit limit number = within 0 (limit - 1) number
+below_limit limit number = if int_le (pos 0) number && int_lt number (pos limit) then Ok (unsigned_abs number) else Err kinds.Range
 
 -- the numbers of words that are all number words
 unfoldable pub numbers_said : Line → Result (List ℤ) Kind

@@ -100,11 +100,13 @@ pub fn within(low: u32, high: u32, number: i128) -> Result<u32, Kind>
 /// A number below a limit.
 #[tactic(auto, unfolding(crate::specs::Forms::below_limit))]
 pub fn below_limit(limit: u32, number: i128) -> Result<u32, Kind>
-    requires { 1 ≤ limit }
     ensures value { result ≡ below_limit limit number }
     ensures less { IfOk result (λ n. n < limit) }
 {
-    within(0, limit - 1, number)
+    if number < 0 || number >= i128::from(limit) {
+        return Err(Kind::Range);
+    }
+    Ok(number as u32)
 }
 
 /// A discount: `0 <= over < under <= 2^20`.
