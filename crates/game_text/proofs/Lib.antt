@@ -6,3 +6,4 @@ pub mod OneReading
 pub mod Guards
 pub mod Said
 pub mod Runs
+pub mod Spells

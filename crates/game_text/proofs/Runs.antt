@@ -132,19 +132,19 @@ head_pair (m ∷ row) = Some (m.seen, m.to)
 
 -- what is found by looking back
 
-shape_outs : (row : List Landing) (b : List Entry) → shape_in (outs row b) ≡ shape_in b
+pub shape_outs : (row : List Landing) (b : List Entry) → shape_in (outs row b) ≡ shape_in b
 shape_outs [] b = refl
 shape_outs (l ∷ row) b = shape_outs row b
 
-begun_outs : (row : List Landing) (b : List Entry) → begun_in (outs row b) ≡ begun_in b
+pub begun_outs : (row : List Landing) (b : List Entry) → begun_in (outs row b) ≡ begun_in b
 begun_outs [] b = refl
 begun_outs (l ∷ row) b = begun_outs row b
 
-sum_outs : (row : List Landing) (s a c : ℕ) (r : ℤ) (b : List Entry) → sum_in (outs row (Step s a c r ∷ b)) ≡ row_sum row
+pub sum_outs : (row : List Landing) (s a c : ℕ) (r : ℤ) (b : List Entry) → sum_in (outs row (Step s a c r ∷ b)) ≡ row_sum row
 sum_outs [] s a c r b = refl
 sum_outs (l ∷ row) s a c r b = omega (arith, ints, sum_outs row s a c r b)
 
-pair_outs : (row : List Landing) (s a c : ℕ) (r : ℤ) (b : List Entry) → pair_in (outs row (Step s a c r ∷ b)) ≡ head_pair row
+pub pair_outs : (row : List Landing) (s a c : ℕ) (r : ℤ) (b : List Entry) → pair_in (outs row (Step s a c r ∷ b)) ≡ head_pair row
 pair_outs [] s a c r b = refl
 pair_outs (l ∷ row) s a c r b = refl
 
@@ -175,7 +175,7 @@ pub record StepFront (shape : Shape) (rs : List ℤ) (rows : List (List Landing)
   pub entry : Step s a c reward ≡ step_of shape (length rs) reward
   pub good : Good shape (reward ∷ rs) ([] ∷ rows)
 
-rows_full : (shape : Shape) (first rs : List ℤ) (rows : List (List Landing)) → Good shape rs rows → ((length rs ≡ 0) ⊎ (sum_in (spelled shape first rs rows) ≡ shape.row_total)) → AllByRecursion (IsFullBack shape) rows
+pub rows_full : (shape : Shape) (first rs : List ℤ) (rows : List (List Landing)) → Good shape rs rows → ((length rs ≡ 0) ⊎ (sum_in (spelled shape first rs rows) ≡ shape.row_total)) → AllByRecursion (IsFullBack shape) rows
 rows_full shape first [] [] good full = tt
 rows_full shape first [] (row ∷ rows) good full = absurd good
 rows_full shape first (r ∷ rs) [] good full = absurd good
@@ -230,7 +230,7 @@ out_front shape first (r ∷ rs) (row ∷ rows) l good on fits =
 
 -- a chain of entries is a header and rows
 
-open_before : (b : List Entry) → (IsFirst b ⊎ IsOut b) → IsOpen b
+pub open_before : (b : List Entry) → (IsFirst b ⊎ IsOut b) → IsOpen b
 open_before b (inl p) = subst IsOpen (sym p.2) tt
 open_before b (inr p) = subst IsOpen (sym p.2) tt
 
