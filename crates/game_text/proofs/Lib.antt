@@ -7,3 +7,6 @@ pub mod Guards
 pub mod Said
 pub mod Runs
 pub mod Spells
+pub mod Bytes
+pub mod Coprime
+pub mod Accept

@@ -234,7 +234,7 @@ pub open_before : (b : List Entry) → (IsFirst b ⊎ IsOut b) → IsOpen b
 open_before b (inl p) = subst IsOpen (sym p.2) tt
 open_before b (inr p) = subst IsOpen (sym p.2) tt
 
-open_row : (b : List Entry) → (IsStep b ⊎ IsOut b) → IsOpen b
+pub open_row : (b : List Entry) → (IsStep b ⊎ IsOut b) → IsOpen b
 open_row b (inl p) = subst IsOpen (sym p.5) tt
 open_row b (inr p) = subst IsOpen (sym p.2) tt
 

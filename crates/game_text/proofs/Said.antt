@@ -229,7 +229,7 @@ discount-ok line e h =
     (number_at ns 0, number_at ns 1, said ∙ ap (λ (x : ℤ × ℤ). Discount x.0 x.1) (sym d'.3), w.0 ∙ ap (λ (xs : List ℤ). codes "discount" ∷ map signed_decimal xs) (two_numbers ns w.1),
      record { low = d'.0; less = d'.1; high = d'.2 })
 
-small_discount : (over under : ℤ) → DiscountFits over under → Small over × Small under
+pub small_discount : (over under : ℤ) → DiscountFits over under → Small over × Small under
 small_discount over under f =
     (small_within (pos 0) (pos most_weight) over (omega arith) (omega arith) (f.low, omega (arith, ints, f.less, f.high)),
      small_within (pos 0) (pos most_weight) under (omega arith) (omega arith) (omega (arith, ints, f.low, f.less), f.high))
@@ -251,7 +251,7 @@ first-ok states line e h =
     let w = numbers_after-ok (codes "first") states line ns p.1 in
     (ns, said_is (First ns) e b.2, w.0, record { long = w.1; each = weights_within-ok ns a.0 a.1; sums = total_within-ok ns b.0 b.1 })
 
-small_weights : (weights : List ℤ) → AllByRecursion (IsWithin (pos 0) (pos most_weight)) weights → AllByRecursion Small weights
+pub small_weights : (weights : List ℤ) → AllByRecursion (IsWithin (pos 0) (pos most_weight)) weights → AllByRecursion Small weights
 small_weights [] h = tt
 small_weights (x ∷ weights) h = (small_within (pos 0) (pos most_weight) x (omega arith) (omega arith) h.0, small_weights weights h.1)
 
@@ -355,7 +355,7 @@ out-ok shape sum pair line e h =
       room = fits_row-ok shape sum m.0 f.0 f.1;
     })
 
-small_weight : (shape : Shape) (x : ℤ) → IsShape shape → IsWithin (pos 1) shape.row_total x → Small x
+pub small_weight : (shape : Shape) (x : ℤ) → IsShape shape → IsWithin (pos 1) shape.row_total x → Small x
 small_weight shape x limits h = small_within (pos 1) (pos most_total) x (omega arith) (omega arith) (h.0, omega (arith, ints, h.1, limits.row_total.1))
 
 pub out-to : (shape : Shape) (sum : ℤ) (pair : Option (ℕ × ℕ)) (l : Landing) → IsShape shape → OutFits shape sum pair l → out_said shape sum pair (words_in (Out l)) ≡ Ok (Out l)

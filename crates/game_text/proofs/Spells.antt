@@ -241,7 +241,7 @@ same_length shape [] (row ∷ rows) good = absurd good
 same_length shape (r ∷ rs) [] good = absurd good
 same_length shape (r ∷ rs) (row ∷ rows) good = ap suc (same_length shape rs rows good.4)
 
-length_map : {X Y : Type 0} (f : X → Y) (xs : List X) → length (map f xs) ≡ length xs
+pub length_map : {X Y : Type 0} (f : X → Y) (xs : List X) → length (map f xs) ≡ length xs
 length_map f [] = refl
 length_map f (x ∷ xs) = ap suc (length_map f xs)
 
@@ -291,7 +291,7 @@ map_push : {X Y : Type 0} (f : X → Y) (xs : List X) (x : X) → map f (xs ++ x
 map_push f [] x = refl
 map_push f (y ∷ xs) x = ap (λ (l : List _). f y ∷ l) (map_push f xs x)
 
-map_reverse : {X Y : Type 0} (f : X → Y) (xs : List X) → map f (reverse xs) ≡ reverse (map f xs)
+pub map_reverse : {X Y : Type 0} (f : X → Y) (xs : List X) → map f (reverse xs) ≡ reverse (map f xs)
 map_reverse f [] = refl
 map_reverse {X} {Y} f (x ∷ xs) = ap (map f) (reverse-cons x xs) ∙ map_push f (reverse xs) x ∙ ap (λ (l : List Y). l ++ f x ∷ []) (map_reverse f xs) ∙ sym (reverse-cons (f x) (map f xs))
 
