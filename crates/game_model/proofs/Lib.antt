@@ -4,3 +4,13 @@ pub mod Lower
 pub mod Rows
 pub mod Family
 pub mod Example
+pub mod Sizes
+pub mod Width
+pub mod Divisor
+pub mod Games
+pub mod Ceil
+pub mod Entries
+pub mod Front
+pub mod Worth
+pub mod Expected
+pub mod Least

@@ -1,9 +1,9 @@
-ghost use Rattle.game_model.specs.Build.{data_of};
-ghost use Rattle.game_model.specs.Game.{IsGame, IsRewardInRange, numbers, reward_at, row_at, span, triple};
+ghost use Rattle.game_model.specs.Build.{data_of, span_from};
+ghost use Rattle.game_model.specs.Game.{IsGame, IsRewardInRange, IsShape, numbers, reward_at, row_at, span, triple};
 ghost use Rattle.game_model.specs.Seeds.{KeepsSpan};
 ghost use Rattle.scaled_num.specs.Sums.{sum_of};
 ghost use Rattle.std.specs.List.{AllByRecursion};
-ghost use Rattle.std.specs.Prelude.{fold, length, max, pos, unsigned_abs, ◌<◌, ◌≡◌};
+ghost use Rattle.std.specs.Prelude.{fold, length, max, pos, unsigned_abs, ◌<◌, ◌^◌, ◌≡◌, ◌≤ℤ◌};
 
 use crate::limits::sum;
 use crate::parts::{Entry, Landing, Shape, UNITS};
@@ -37,8 +37,7 @@ impl Game {
         requires { IsGame (data_of shape first.items entries.items) }
         ensures { result ≡ data_of shape first.items entries.items }
     {
-        let (over, under) = shape.discount;
-        let width = ceil_div(UNITS * greatest_reward(&entries) * under, under - over);
+        let width = span_of(&shape, greatest_reward(&entries));
         Game {
             shape,
             first,
@@ -151,18 +150,26 @@ pub fn law_game(game: &Game)
     let _width = game.width;
 }
 
+/// The span of games whose rewards have this greatest magnitude.
+fn span_of(shape: &Shape, most: i128) -> i128
+    requires shape { IsShape shape.now }
+    requires low { pos 0 ≤ℤ most }
+    requires high { most ≤ℤ pos (2 ^ 30) }
+    ensures { result ≡ pos (span_from shape.now (unsigned_abs most)) }
+{
+    let (over, under) = shape.discount;
+    ceil_div(UNITS * most * under, under - over)
+}
+
 /// The greatest magnitude of a reward.
 fn greatest_reward(entries: &[Entry]) -> i128
     requires { AllByRecursion (λ e. IsRewardInRange e.reward) entries.now }
+    ensures bounded { result ≤ℤ pos (2 ^ 30) }
     ensures greatest { result ≡ pos (fold (λ most e. max most (unsigned_abs e.reward)) 0 entries.now) }
 {
-    let mut most = 0;
+    let mut most: i128 = 0;
     for entry in entries {
-        let reward = entry.reward;
-        let magnitude = if reward < 0 { -reward } else { reward };
-        if magnitude > most {
-            most = magnitude;
-        }
+        most = most.max(entry.reward.abs());
     }
     most
 }

@@ -1,12 +1,12 @@
 ghost use Rattle.game_model.specs.Build.{HasRoom, HasWeightLeft, IsBegun, IsGameFront, IsLastRowFull, IsMultiple, IsNext, landing_of, last_row, with_landing, with_step};
 ghost use Rattle.game_model.specs.Game.{IsBelief, IsLanding, IsNarrow, IsRewardInRange, IsShape, row_sum, triples};
-ghost use Rattle.std.specs.List.{AllByRecursion};
-ghost use Rattle.std.specs.Prelude.{IfOk, IsErrOf, OnErr, OnOk, [], length, pos, ◌<◌, ◌↔◌, ◌⊎◌, ◌≡◌};
+ghost use Rattle.std.specs.Bool.{IsTrue};
+ghost use Rattle.std.specs.Prelude.{IfOk, IsErrOf, OnErr, OnOk, [], pos, ◌↔◌, ◌⊎◌, ◌≡◌, ◌≤ℤ◌};
 
 use crate::accepted::Game;
 use crate::limits::{coprime, count_triples, is_belief, is_landing, is_narrow, is_next, is_reward, is_shape};
 use crate::parts::{Entry, Landing, Shape};
-use std::alloc::Global;
+use std::alloc::{AllocError, Global};
 use std::marker::Model;
 use thiserror::Error;
 
@@ -110,23 +110,12 @@ impl GameBuilder {
         ensures unchanged { OnErr result (self.new ≡ self.old) }
         ensures front { IsGameFront self.new }
     {
-        if self.entries.len() == count_triples(&self.shape) {
-            return Err(GameFault::Extra);
+        if let Err(fault) = self.admit_step(reward) {
+            return Err(fault);
         }
-        if !is_reward(reward) {
-            return Err(GameFault::Range);
-        }
-        if !self.entries.is_empty() && self.filled != self.shape.row_total {
-            return Err(GameFault::Total);
-        }
-        if !is_narrow(&self.shape, reward) {
-            return Err(GameFault::Wide);
-        }
-        let row = Vec::new(*self.entries.allocator());
-        if self.entries.push(Entry { reward, row }).is_err() {
+        if self.begin(reward).is_err() {
             return Err(GameFault::OutOfMemory);
         }
-        self.filled = 0;
         Ok(())
     }
 
@@ -149,24 +138,12 @@ impl GameBuilder {
         ensures front { IsGameFront self.new }
     {
         let landing = Landing { seen, to, weight };
-        let begun = self.entries.len();
-        if begun == 0 {
-            return Err(GameFault::Missing);
+        if let Err(fault) = self.admit_landing(&landing) {
+            return Err(fault);
         }
-        if !is_landing(&self.shape, &landing) {
-            return Err(GameFault::Range);
-        }
-        let entry = &mut self.entries[begun - 1];
-        if !is_next(&entry.row, &landing) {
-            return Err(GameFault::Order);
-        }
-        if self.filled + weight > self.shape.row_total {
-            return Err(GameFault::Total);
-        }
-        if entry.row.push(landing).is_err() {
+        if self.add(landing).is_err() {
             return Err(GameFault::OutOfMemory);
         }
-        self.filled += weight;
         Ok(())
     }
 
@@ -182,13 +159,136 @@ impl GameBuilder {
         ensures others { (fault : GameFault) → IsErrOf result fault → (fault ≡ GameFault.Missing) ⊎ (fault ≡ GameFault.Total) }
         ensures built { IfOk result (λ game. game ≡ self) }
     {
-        if self.entries.len() != count_triples(&self.shape) {
+        if self.has_room() {
             return Err(GameFault::Missing);
         }
-        if self.filled != self.shape.row_total {
+        if !self.is_last_full() {
             return Err(GameFault::Total);
         }
         let GameBuilder { shape, first, entries, .. } = self;
         Ok(Game::of_parts(shape, first, entries))
+    }
+
+    /// Whether some triple was not begun.
+    fn has_room(&self) -> bool
+        ensures room { IsTrue result ↔ HasRoom self.now }
+        ensures front { IsGameFront self.now }
+    {
+        self.entries.len() < count_triples(&self.shape)
+    }
+
+    /// Whether no row was begun, or the weights of the last one sum to the row total.
+    fn is_last_full(&self) -> bool
+        ensures { IsTrue result ↔ IsLastRowFull self.now }
+    {
+        self.entries.is_empty() || self.filled == self.shape.row_total
+    }
+
+    /// Whether a row was begun.
+    fn is_begun(&self) -> bool
+        ensures begun { IsTrue result ↔ IsBegun self.now }
+        ensures front { IsGameFront self.now }
+    {
+        !self.entries.is_empty()
+    }
+
+    /// Whether the landing comes after the last one of the last row.
+    fn is_next(&self, landing: &Landing) -> bool
+        requires { IsBegun self.now }
+        ensures { IsTrue result ↔ IsNext (last_row self.now) landing.now }
+    {
+        is_next(&self.entries[self.entries.len() - 1].row, landing)
+    }
+
+    /// Whether the weight still fits the last row.
+    fn has_left(&self, weight: i128) -> bool
+        requires low { pos 1 ≤ℤ weight }
+        requires high { weight ≤ℤ self.now.shape.row_total }
+        ensures { IsTrue result ↔ HasWeightLeft self.now weight }
+    {
+        self.filled + weight <= self.shape.row_total
+    }
+
+    /// Whether a step with this reward is refused.
+    fn admit_step(&self, reward: i128) -> Result<(), GameFault>
+        ensures extra { IsErrOf result GameFault.Extra ↔ ¬ (HasRoom self.now) }
+        ensures range { IsErrOf result GameFault.Range ↔ (HasRoom self.now × ¬ (IsRewardInRange reward)) }
+        ensures total { IsErrOf result GameFault.Total ↔ (HasRoom self.now × IsRewardInRange reward × ¬ (IsLastRowFull self.now)) }
+        ensures wide { IsErrOf result GameFault.Wide ↔ (HasRoom self.now × IsRewardInRange reward × IsLastRowFull self.now × ¬ (IsNarrow self.now.shape reward)) }
+        ensures others { (fault : GameFault) → IsErrOf result fault → (fault ≡ GameFault.Extra) ⊎ (fault ≡ GameFault.Range) ⊎ (fault ≡ GameFault.Total) ⊎ (fault ≡ GameFault.Wide) }
+        ensures front { IsGameFront self.now }
+        ensures admitted { OnOk result (HasRoom self.now × IsRewardInRange reward × IsLastRowFull self.now × IsNarrow self.now.shape reward) }
+    {
+        if !self.has_room() {
+            return Err(GameFault::Extra);
+        }
+        if !is_reward(reward) {
+            return Err(GameFault::Range);
+        }
+        if !self.is_last_full() {
+            return Err(GameFault::Total);
+        }
+        if !is_narrow(&self.shape, reward) {
+            return Err(GameFault::Wide);
+        }
+        Ok(())
+    }
+
+    /// Whether a landing is refused.
+    fn admit_landing(&self, landing: &Landing) -> Result<(), GameFault>
+        ensures missing { IsErrOf result GameFault.Missing ↔ ¬ (IsBegun self.now) }
+        ensures range { IsErrOf result GameFault.Range ↔ (IsBegun self.now × ¬ (IsLanding self.now.shape landing.now)) }
+        ensures order { IsErrOf result GameFault.Order ↔ (IsBegun self.now × IsLanding self.now.shape landing.now × ¬ (IsNext (last_row self.now) landing.now)) }
+        ensures total { IsErrOf result GameFault.Total ↔ (IsBegun self.now × IsLanding self.now.shape landing.now × IsNext (last_row self.now) landing.now × ¬ (HasWeightLeft self.now landing.now.weight)) }
+        ensures others { (fault : GameFault) → IsErrOf result fault → (fault ≡ GameFault.Missing) ⊎ (fault ≡ GameFault.Range) ⊎ (fault ≡ GameFault.Order) ⊎ (fault ≡ GameFault.Total) }
+        ensures front { IsGameFront self.now }
+        ensures admitted { OnOk result (IsBegun self.now × IsLanding self.now.shape landing.now × IsNext (last_row self.now) landing.now × HasWeightLeft self.now landing.now.weight) }
+    {
+        if !self.is_begun() {
+            return Err(GameFault::Missing);
+        }
+        if !is_landing(&self.shape, landing) {
+            return Err(GameFault::Range);
+        }
+        if !self.is_next(landing) {
+            return Err(GameFault::Order);
+        }
+        if !self.has_left(landing.weight) {
+            return Err(GameFault::Total);
+        }
+        Ok(())
+    }
+
+    /// Begins a row.
+    fn begin(&mut self, reward: i128) -> Result<(), AllocError>
+        requires room { HasRoom self.old }
+        requires range { IsRewardInRange reward }
+        requires last { IsLastRowFull self.old }
+        requires narrow { IsNarrow self.old.shape reward }
+        ensures begun { OnOk result (self.new ≡ with_step self.old reward) }
+        ensures unchanged { OnErr result (self.new ≡ self.old) }
+        ensures front { IsGameFront self.new }
+    {
+        let row = Vec::new(*self.entries.allocator());
+        self.entries.push(Entry { reward, row })?;
+        self.filled = 0;
+        Ok(())
+    }
+
+    /// Adds a landing to the last row.
+    fn add(&mut self, landing: Landing) -> Result<(), AllocError>
+        requires begun { IsBegun self.old }
+        requires right { IsLanding self.old.shape landing }
+        requires next { IsNext (last_row self.old) landing }
+        requires left { HasWeightLeft self.old landing.weight }
+        ensures added { OnOk result (self.new ≡ with_landing self.old landing) }
+        ensures unchanged { OnErr result (self.new ≡ self.old) }
+        ensures front { IsGameFront self.new }
+    {
+        let last = self.entries.len() - 1;
+        let entry = &mut self.entries[last];
+        entry.row.push(landing)?;
+        self.filled += landing.weight;
+        Ok(())
     }
 }

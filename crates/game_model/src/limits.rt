@@ -1,10 +1,10 @@
-ghost use Rattle.game_model.specs.Build.{IsMultiple, IsNext};
+ghost use Rattle.game_model.specs.Build.{HasCounts, HasFractions, IsMultiple, IsNext};
 ghost use Rattle.game_model.specs.Game.{AreCoprime, IsBelief, IsLanding, IsNarrow, IsRewardInRange, IsShape, IsWithin, triples};
 ghost use Rattle.scaled_num.specs.Sums.{sum_of};
 ghost use Rattle.std.specs.Bool.{IsTrue};
 ghost use Rattle.std.specs.Int.{◌∣◌};
 ghost use Rattle.std.specs.List.{AllByRecursion};
-ghost use Rattle.std.specs.Prelude.{IfOk, length, pos, unsigned_abs, ℕ, ◌^◌, ◌↔◌, ◌≡◌, ◌≤◌};
+ghost use Rattle.std.specs.Prelude.{IfOk, int_div, length, map, max, pos, unsigned_abs, ℕ, ◌<ℤ◌, ◌^◌, ◌↔◌, ◌≡◌, ◌≤◌};
 
 use crate::parts::{Landing, MOST_ACTIONS, MOST_BELIEF, MOST_DISCOUNT, MOST_OBSERVATIONS, MOST_REWARD, MOST_ROW_TOTAL, MOST_STATES, MOST_WIDTH, Shape};
 use scaled_num::gcd;
@@ -14,20 +14,32 @@ use std::alloc::{AllocError, Global};
 pub fn is_shape(shape: &Shape) -> bool
     ensures { IsTrue result ↔ IsShape shape.now }
 {
+    has_counts(shape) && has_fractions(shape)
+}
+
+/// Whether the numbers of states, actions and observations are within their limits.
+fn has_counts(shape: &Shape) -> bool
+    ensures { IsTrue result ↔ HasCounts shape.now }
+{
+    is_count(shape.states, MOST_STATES as u32)
+        && is_count(shape.own_actions, MOST_ACTIONS)
+        && is_count(shape.informed_actions, MOST_ACTIONS)
+        && is_count(shape.observations, MOST_OBSERVATIONS)
+}
+
+/// Whether the row total and the discount are within their limits.
+fn has_fractions(shape: &Shape) -> bool
+    ensures { IsTrue result ↔ HasFractions shape.now }
+{
     let (over, under) = shape.discount;
-    1 <= shape.states
-        && shape.states <= MOST_STATES as u32
-        && 1 <= shape.own_actions
-        && shape.own_actions <= MOST_ACTIONS
-        && 1 <= shape.informed_actions
-        && shape.informed_actions <= MOST_ACTIONS
-        && 1 <= shape.observations
-        && shape.observations <= MOST_OBSERVATIONS
-        && 1 <= shape.row_total
-        && shape.row_total <= MOST_ROW_TOTAL
-        && 0 <= over
-        && over < under
-        && under <= MOST_DISCOUNT
+    1 <= shape.row_total && shape.row_total <= MOST_ROW_TOTAL && 0 <= over && over < under && under <= MOST_DISCOUNT
+}
+
+/// Whether a number is at least 1 and at most `most`.
+fn is_count(count: u32, most: u32) -> bool
+    ensures { IsTrue result ↔ ((1 ≤ count) × (count ≤ most)) }
+{
+    1 <= count && count <= most
 }
 
 /// The sum of the weights of a belief.
@@ -43,13 +55,20 @@ pub fn sum(weights: &[i128]) -> i128
     sum
 }
 
+/// Whether each weight of a belief is within its limit.
+fn are_weights(weights: &[i128]) -> bool
+    ensures { IsTrue result ↔ AllByRecursion (IsWithin (pos 0) (pos (2 ^ 20))) weights.now }
+{
+    weights.iter().all(|weight| 0 <= *weight && *weight <= MOST_BELIEF)
+}
+
 /// Whether these are weights of a belief over so many states: each at most 2^20, and so is their total, which is
 /// not zero.
 pub fn is_belief(states: u32, weights: &[i128]) -> bool
     requires { states ≤ 16 }
     ensures { IsTrue result ↔ IsBelief states weights.now }
 {
-    if weights.len() != states as usize || !weights.iter().all(|weight| 0 <= *weight && *weight <= MOST_BELIEF) {
+    if weights.len() != states as usize || !are_weights(weights) {
         return false;
     }
     let total = sum(weights);
@@ -69,9 +88,16 @@ pub fn is_narrow(shape: &Shape, reward: i128) -> bool
     requires reward { IsRewardInRange reward }
     ensures { IsTrue result ↔ IsNarrow shape.now reward }
 {
-    let magnitude = if reward < 0 { -reward } else { reward };
-    let under = shape.discount.1;
-    shape.row_total * under * under * magnitude.max(1) <= MOST_WIDTH
+    let (_, under) = shape.discount;
+    shape.row_total * under * under * magnitude_or_one(reward) <= MOST_WIDTH
+}
+
+/// The magnitude of a reward, and at least 1.
+fn magnitude_or_one(reward: i128) -> i128
+    requires { IsRewardInRange reward }
+    ensures { result ≡ pos (max 1 (unsigned_abs reward)) }
+{
+    reward.abs().max(1)
 }
 
 /// How many triples of state, own action and informed action there are.
@@ -121,7 +147,15 @@ pub fn coprime(alloc: Global, weights: &[i128]) -> Result<Vec<i128>, AllocError>
     ensures multiple { IfOk result (λ kept. IsMultiple weights.now kept.items) }
     ensures coprime { IfOk result (λ kept. AreCoprime kept.items) }
 {
-    let divisor = common_divisor(weights) as i128;
+    quotients(alloc, weights, common_divisor(weights) as i128)
+}
+
+/// Each weight of a belief over a divisor.
+fn quotients(alloc: Global, weights: &[i128], divisor: i128) -> Result<Vec<i128>, AllocError>
+    requires each { AllByRecursion (IsWithin (pos 0) (pos (2 ^ 20))) weights.now }
+    requires positive { pos 0 <ℤ divisor }
+    ensures { IfOk result (λ kept. kept.items ≡ map (λ x. int_div x divisor) weights.now) }
+{
     let mut kept = Vec::with_capacity(alloc, weights.len())?;
     for weight in weights {
         kept.push(*weight / divisor)?;

@@ -1,9 +1,9 @@
-ghost use Rattle.game_model.specs.Build.{IsBounded, IsWithinSpan, IsWorthWithin};
-ghost use Rattle.game_model.specs.Game.{numbers, span};
+ghost use Rattle.game_model.specs.Build.{IsBounded, IsLeastOf, IsWithinSpan, IsWorthWithin};
+ghost use Rattle.game_model.specs.Game.{numbers, row_at, span};
 ghost use Rattle.scaled_num.specs.Sums.{total};
 ghost use Rattle.game_model.specs.Seeds.{IsLeastFloor, IsSeed, IsSeedAfter, stage_worth};
 ghost use Rattle.std.specs.List.{AllByRecursion};
-ghost use Rattle.std.specs.Prelude.{length, neg_ℤ, pos, slice_index_or, sum_by, unsigned_abs, ℕ, ◌*ℤ◌, ◌<◌, ◌^◌, ◌≡◌, ◌≤◌};
+ghost use Rattle.std.specs.Prelude.{length, neg_ℤ, pos, slice_index_or, sum_by, unsigned_abs, ℕ, ◌*◌, ◌*ℤ◌, ◌<◌, ◌^◌, ◌≡◌, ◌≤◌};
 
 use crate::accepted::{Game, law_game};
 use crate::parts::{Landing, MOST_STATES, SEED_ROUNDS, UNITS};
@@ -30,9 +30,10 @@ fn settle(game: &Game, a: u32, rounds: u32, out: &mut [i128])
     requires start { AllByRecursion (λ x. x ≡ neg_ℤ (pos (span game.now))) out.old }
     ensures { IsSeedAfter (numbers game.now) (span game.now) a rounds (λ s. slice_index_or out.new s (pos 0)) }
 {
+    law_game(game);
     let mut before = [0; MOST_STATES];
     let before = &mut before[..out.len()];
-    for _ in 0..rounds {
+    for _round in 0..rounds {
         before.copy_from_slice(out);
         round(game, a, before, out);
     }
@@ -46,6 +47,7 @@ fn round(game: &Game, a: u32, old: &[i128], new: &mut [i128])
     ensures floors { (s : ℕ) → s < game.now.shape.states → IsLeastFloor (numbers game.now) a (λ t. slice_index_or old.now t (pos 0)) s (slice_index_or new.new s (pos 0)) }
     ensures bounded { IsBounded game.now new.new }
 {
+    law_game(game);
     for (s, entry) in new.iter_mut().enumerate() {
         *entry = least(game, a, s as u32, old);
     }
@@ -59,12 +61,26 @@ fn least(game: &Game, a: u32, s: u32, old: &[i128]) -> i128
     ensures floor { IsLeastFloor (numbers game.now) a (λ t. slice_index_or old.now t (pos 0)) s result }
     ensures bounded { IsWithinSpan game.now result }
 {
+    law_game(game);
+    let worth = least_worth(game, a, s, old);
+    let (_, under) = game.discount();
+    floor_div(worth, game.row_total() * under)
+}
+
+/// The least worth over the informed actions, before the division.
+fn least_worth(game: &Game, a: u32, s: u32, old: &[i128]) -> i128
+    requires action { a < game.now.shape.own_actions }
+    requires state { s < game.now.shape.states }
+    requires bounded { IsBounded game.now old.now }
+    ensures least { IsLeastOf (stage_worth (numbers game.now) a (λ t. slice_index_or old.now t (pos 0)) s) game.now.shape.informed_actions result }
+    ensures bounded { IsWorthWithin game.now result }
+{
+    law_game(game);
     let mut least = worth(game, s, a, 0, old);
     for c in 1..game.informed_actions() {
         least = least.min(worth(game, s, a, c, old));
     }
-    let (_, under) = game.discount();
-    floor_div(least, game.row_total() * under)
+    least
 }
 
 /// What a stage and the old entries are worth at one informed action, before the division.
@@ -76,8 +92,23 @@ fn worth(game: &Game, s: u32, a: u32, c: u32, old: &[i128]) -> i128
     ensures exact { result ≡ stage_worth (numbers game.now) a (λ t. slice_index_or old.now t (pos 0)) s c }
     ensures bounded { IsWorthWithin game.now result }
 {
+    law_game(game);
+    let later = rest(game, s, a, c, old);
     let (over, under) = game.discount();
-    UNITS * game.reward(s, a, c) * (game.row_total() * under) + over * expected(game.row(s, a, c), old)
+    UNITS * game.reward(s, a, c) * (game.row_total() * under) + over * later
+}
+
+/// The sum over the row of a triple of its weights times the old entries.
+fn rest(game: &Game, s: u32, a: u32, c: u32, old: &[i128]) -> i128
+    requires state { s < game.now.shape.states }
+    requires own { a < game.now.shape.own_actions }
+    requires informed { c < game.now.shape.informed_actions }
+    requires bounded { IsBounded game.now old.now }
+    ensures exact { result ≡ total (λ l. l.weight *ℤ slice_index_or old.now l.to (pos 0)) (row_at game.now s a c) }
+    ensures bounded { unsigned_abs result ≤ unsigned_abs game.now.shape.row_total * span game.now }
+{
+    law_game(game);
+    expected(game.row(s, a, c), old)
 }
 
 /// The sum over a row of its weights times the entries of a vector.
