@@ -16,6 +16,7 @@ use Rattle.game_text.specs.Forms.{most_total, most_weight}
 use Rattle.game_text.specs.Text.{scaled, text_of, IsTextOf}
 use Rattle.game_text.specs.Entries.{Entry, Version, Size, Total, Discount, First, Step, Out, End, shape_in}
 use Rattle.game_text.specs.Reading.{Say, Reads, Accepts, Refuses, RefusesAlone, GoesOn}
+use Rattle.game_text.specs.Built.{rewards_in, onto_last, rows_in}
 use Rattle.game_text.proofs.Said.{words_in, name_in, numbers_in, Small, small_within, small_discount, small_weights, small_weight}
 use Rattle.game_text.specs.Forms.{state_at, own_at, informed_at}
 use Rattle.game_text.proofs.Runs.{May, Run, outs, step_of, spelled, Good, Front, say_run, run_say, shape_limits, open_before, open_row, shape_spelled}
@@ -142,21 +143,6 @@ abbrev pub weights_in : List Entry → List ℤ
 weights_in [] = []
 weights_in (First w ∷ b) = w
 weights_in (e ∷ b) = weights_in b
-
-abbrev pub rewards_in : List Entry → List ℤ
-rewards_in [] = []
-rewards_in (Step s a c r ∷ b) = r ∷ rewards_in b
-rewards_in (e ∷ b) = rewards_in b
-
-abbrev pub onto_last : Landing → List (List Landing) → List (List Landing)
-onto_last l [] = []
-onto_last l (row ∷ rows) = (l ∷ row) ∷ rows
-
-abbrev pub rows_in : List Entry → List (List Landing)
-rows_in [] = []
-rows_in (Step s a c r ∷ b) = [] ∷ rows_in b
-rows_in (Out l ∷ b) = onto_last l (rows_in b)
-rows_in (e ∷ b) = rows_in b
 
 weights_outs : (row : List Landing) (b : List Entry) → weights_in (outs row b) ≡ weights_in b
 weights_outs [] b = refl

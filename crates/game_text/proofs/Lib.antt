@@ -10,3 +10,4 @@ pub mod Spells
 pub mod Bytes
 pub mod Coprime
 pub mod Accept
+pub mod Building

@@ -8,3 +8,4 @@ pub mod Place
 pub mod Header
 pub mod Limits
 pub mod Answers
+pub mod Built

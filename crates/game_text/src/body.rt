@@ -1,5 +1,7 @@
-ghost use Rattle.std.specs.Prelude.{◌≡◌, ◌+◌, ◌^◌, ◌<◌, ◌≤◌, ℕ, List, length, IfOk, IfErr, ⊤};
-ghost use Rattle.text_words.specs.Lines.{Line, lines_of};
+ghost use Rattle.std.specs.Prelude.{◌≡◌, ◌+◌, ◌^◌, ◌<◌, ◌≤◌, ℕ, List, length, IfOk, IfErr, ◌==◌};
+ghost use Rattle.std.specs.List.{after_first};
+ghost use Rattle.text_words.specs.Lines.{Line, after_lines, lines_of};
+ghost use Rattle.game_text.specs.Built.{IsEnded};
 ghost use Rattle.game_text.specs.Fault.{Gives};
 ghost use Rattle.game_text.specs.Place.{IsPlace, IsOpen, FitsPlace, entry_in, place_of, place_after, row_at, said};
 ghost use Rattle.game_text.specs.Reading.{Reads};
@@ -22,6 +24,7 @@ fn next_row<'a>(
     requires { IsPlace place.now }
     ensures gives { Gives (λ found. (entry_in found.0, lines_of found.1.now)) result (row_at place.now (lines_of text.now)) }
     ensures fits { IfOk result (λ found. FitsPlace place.now found.0) }
+    ensures after { IfOk result (λ found. found.1.now ≡ after_first (λ b. b == 10) text.now) }
     ensures shorter { IfOk result (λ found. length found.1.now < length text.now) }
 {
     let (words, rest) = first_words(alloc, text)?;
@@ -62,6 +65,9 @@ pub fn read_rows(
     requires place { IsPlace start }
     requires begun { start.begun ≡ 0 }
     requires size { length text.now < 2 ^ 31 }
+    ensures after { IfOk result (λ found. found.1.now ≡ after_lines (length found.0.items) text.now) }
+    ensures few { IfOk result (λ found. length found.0.items ≤ length text.now) }
+    ensures ended { (before : List Entry) → IfOk result (λ found. IsEnded (said found.0.items before)) }
     ensures found { (lines : List Line) (before : List Entry) → Reads lines 5 before (lines_of text.now) → start ≡ place_of before → IsOpen before
         → IfOk result (λ found. Reads lines (5 + length found.0.items) (said found.0.items before) (lines_of found.1.now)) }
     ensures refused { (lines : List Line) (before : List Entry) → Reads lines 5 before (lines_of text.now) → start ≡ place_of before → IsOpen before

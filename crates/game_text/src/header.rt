@@ -1,5 +1,6 @@
-ghost use Rattle.std.specs.Prelude.{◌≡◌, ◌≤◌, ◌<◌, ℕ, ℤ, List, [], ◌∷◌, length, map, IfOk, IfErr, pos, ◌≤ℤ◌};
-ghost use Rattle.text_words.specs.Lines.{lines_of};
+ghost use Rattle.std.specs.Prelude.{◌≡◌, ◌≤◌, ◌<◌, ℕ, ℤ, List, [], ◌∷◌, length, map, IfOk, IfErr, pos, ◌==◌, ◌≤ℤ◌};
+ghost use Rattle.std.specs.List.{after_first};
+ghost use Rattle.text_words.specs.Lines.{after_lines, lines_of};
 ghost use Rattle.game_model.specs.Game.{IsShape, IsWithin};
 ghost use Rattle.game_text.specs.Fault.{Gives};
 ghost use Rattle.game_text.specs.Reading.{Reads, first_of, line_at};
@@ -34,6 +35,7 @@ struct Sizes {
 /// The words of the first line, and what follows it.
 pub fn first_words(alloc: Global, text: &[u8]) -> Result<(Vec<&[u8]>, &[u8]), LineFault>
     ensures gives { Gives (λ found. (map (λ word. word.now) found.0.items, lines_of found.1.now)) result (first_of (lines_of text.now)) }
+    ensures after { IfOk result (λ found. found.1.now ≡ after_first (λ b. b == 10) text.now) }
     ensures shorter { IfOk result (λ found. length found.1.now < length text.now) }
 {
     let (line, rest) = text_words::split_line(text).ok_or(Kind::Missing)?;
@@ -42,7 +44,8 @@ pub fn first_words(alloc: Global, text: &[u8]) -> Result<(Vec<&[u8]>, &[u8]), Li
 
 #[tactic(auto, unfolding(crate::specs::Entries::version_said, crate::specs::Entries::entry_of, crate::specs::Reading::line_at))]
 fn version_line(alloc: Global, text: &[u8]) -> Result<&[u8], LineFault>
-    ensures { Gives (λ rest. (Version, lines_of rest.now)) result (line_at [] (lines_of text.now)) }
+    ensures gives { Gives (λ rest. (Version, lines_of rest.now)) result (line_at [] (lines_of text.now)) }
+    ensures after { IfOk result (λ rest. rest.now ≡ after_first (λ b. b == 10) text.now) }
 {
     let (words, rest) = first_words(alloc, text)?;
     version(&words)?;
@@ -97,6 +100,7 @@ fn first_said(alloc: Global, words: &[&[u8]], states: u32) -> Result<Vec<i128>, 
 fn size_line(alloc: Global, text: &[u8]) -> Result<(Sizes, &[u8]), LineFault>
     ensures gives { Gives (λ found. (Size found.0.states found.0.own_actions found.0.informed_actions found.0.observations, lines_of found.1.now)) result (line_at (Version ∷ []) (lines_of text.now)) }
     ensures limits { IfOk result (λ found. AreSizes found.0) }
+    ensures after { IfOk result (λ found. found.1.now ≡ after_first (λ b. b == 10) text.now) }
 {
     let (words, rest) = first_words(alloc, text)?;
     let sizes = size_said(alloc, &words)?;
@@ -107,6 +111,7 @@ fn size_line(alloc: Global, text: &[u8]) -> Result<(Sizes, &[u8]), LineFault>
 fn total_line(alloc: Global, text: &[u8]) -> Result<(i128, &[u8]), LineFault>
     ensures gives { (s a c o : ℕ) (before : List Entry) → Gives (λ found. (Total found.0, lines_of found.1.now)) result (line_at (Size s a c o ∷ before) (lines_of text.now)) }
     ensures limits { IfOk result (λ found. IsWithin (pos 1) (pos 1073741824) found.0) }
+    ensures after { IfOk result (λ found. found.1.now ≡ after_first (λ b. b == 10) text.now) }
 {
     let (words, rest) = first_words(alloc, text)?;
     let total = total_said(alloc, &words)?;
@@ -117,6 +122,7 @@ fn total_line(alloc: Global, text: &[u8]) -> Result<(i128, &[u8]), LineFault>
 fn discount_line(alloc: Global, text: &[u8]) -> Result<((i128, i128), &[u8]), LineFault>
     ensures gives { (total : ℤ) (before : List Entry) → Gives (λ found. (Discount found.0.0 found.0.1, lines_of found.1.now)) result (line_at (Total total ∷ before) (lines_of text.now)) }
     ensures limits { IfOk result (λ found. IsDiscount found.0) }
+    ensures after { IfOk result (λ found. found.1.now ≡ after_first (λ b. b == 10) text.now) }
 {
     let (words, rest) = first_words(alloc, text)?;
     let discount = discount_said(alloc, &words)?;
@@ -126,7 +132,8 @@ fn discount_line(alloc: Global, text: &[u8]) -> Result<((i128, i128), &[u8]), Li
 #[tactic(auto, unfolding(crate::specs::Entries::entry_of, crate::specs::Reading::line_at))]
 fn first_line(alloc: Global, states: u32, text: &[u8]) -> Result<(Vec<i128>, &[u8]), LineFault>
     requires { states ≤ 16 }
-    ensures { (over under : ℤ) (before : List Entry) → (shape_in before).states ≡ states → Gives (λ found. (First found.0.items, lines_of found.1.now)) result (line_at (Discount over under ∷ before) (lines_of text.now)) }
+    ensures gives { (over under : ℤ) (before : List Entry) → (shape_in before).states ≡ states → Gives (λ found. (First found.0.items, lines_of found.1.now)) result (line_at (Discount over under ∷ before) (lines_of text.now)) }
+    ensures after { IfOk result (λ found. found.1.now ≡ after_first (λ b. b == 10) text.now) }
 {
     let (words, rest) = first_words(alloc, text)?;
     let first = first_said(alloc, &words, states)?;
@@ -137,6 +144,7 @@ fn first_line(alloc: Global, states: u32, text: &[u8]) -> Result<(Vec<i128>, &[u
 pub fn read_header(alloc: Global, text: &[u8]) -> Result<(Header, &[u8]), TextFault>
     ensures found { IfOk result (λ found. Reads (lines_of text.now) 5 (said_by found.0) (lines_of found.1.now)) }
     ensures shape { IfOk result (λ found. IsShape found.0.shape) }
+    ensures after { IfOk result (λ found. found.1.now ≡ after_lines 5 text.now) }
     ensures refused { IfErr result (IsFaultOf (lines_of text.now)) }
 {
     let rest = numbered(version_line(alloc, text), 1)?;

@@ -12,7 +12,7 @@ use Rattle.std.proofs.lemmas.Bool.Decides.{nat_tests}
 use Rattle.text_words.specs.Lines.{Line, words_of, lines_of, ended, after_lines, line_text}
 use Rattle.text_words.proofs.Pieces.{lines_of-more, lines_of-none}
 
-abbrev is_feed : ℕ → Bool
+abbrev pub is_feed : ℕ → Bool
 is_feed b = eqb b 10
 
 abbrev is_space : ℕ → Bool
@@ -161,3 +161,13 @@ lines_of-front text (line ∷ lines) rest h =
     let p = lines_of-first text line (lines ++ rest) h in
     let q = lines_of-front (after_first is_feed text) lines rest p.1 in
     (p.0 ∙ ap (λ (l : List ℕ). line_text line ++ l) q.0 ∙ sym (append_assoc (line_text line) (lines_text lines) (after_lines (length lines) (after_first is_feed text))), q.1)
+
+pub after_lines-more : (count : ℕ) (text : List ℕ) → after_lines (count + 1) text ≡ after_first is_feed (after_lines count text)
+unfolding after_lines
+after_lines-more zero text = refl
+after_lines-more (suc count) text = let e : suc count + 1 ≡ suc (count + 1) = omega arith in rw e (after_lines-more count (after_first is_feed text))
+
+pub after_lines-add : (m n : ℕ) (text : List ℕ) → after_lines (m + n) text ≡ after_lines n (after_lines m text)
+unfolding after_lines
+after_lines-add zero n text = let e : 0 + n ≡ n = omega arith in ap (λ (k : ℕ). after_lines k text) e
+after_lines-add (suc m) n text = let e : suc m + n ≡ suc (m + n) = omega arith in rw e (after_lines-add m n (after_first is_feed text))
