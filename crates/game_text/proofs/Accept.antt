@@ -148,7 +148,7 @@ weights_outs : (row : List Landing) (b : List Entry) → weights_in (outs row b)
 weights_outs [] b = refl
 weights_outs (l ∷ row) b = weights_outs row b
 
-weights_spelled : (shape : Shape) (first rs : List ℤ) (rows : List (List Landing)) → weights_in (spelled shape first rs rows) ≡ first
+pub weights_spelled : (shape : Shape) (first rs : List ℤ) (rows : List (List Landing)) → weights_in (spelled shape first rs rows) ≡ first
 weights_spelled shape first [] [] = refl
 weights_spelled shape first [] (row ∷ rows) = refl
 weights_spelled shape first (r ∷ rs) [] = refl

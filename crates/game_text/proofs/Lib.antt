@@ -11,3 +11,4 @@ pub mod Bytes
 pub mod Coprime
 pub mod Accept
 pub mod Building
+pub mod Final

@@ -1,11 +1,7 @@
-use Rattle.std.specs.Prelude.{ℕ, ◌≤◌, ◌<ℤ◌, ◌≤ℤ◌, ℤ, pos, List, [], ◌∷◌, ⊤}
-use Rattle.game_text.specs.declared.fault.TextFault.{TextFault}
-use Rattle.game_text.specs.declared.fault.TextFault.TheVariants as text
+use Rattle.std.specs.Prelude.{ℕ, ◌≤◌, List, [], ◌∷◌}
 use Rattle.game_text.specs.declared.header.Header.{Header}
 use Rattle.game_text.specs.declared.header.Sizes.{Sizes}
-use Rattle.text_words.specs.Lines.{Line}
 use Rattle.game_text.specs.Entries.{Entry, Version, Size, Total, Discount, First}
-use Rattle.game_text.specs.Reading.{Refuses}
 
 -- what the lines of a header say, the latest first
 abbrev pub said_by : Header → List Entry
@@ -18,8 +14,3 @@ pub record AreSizes (sizes : Sizes) : Type 0 where
   pub own_actions : (1 ≤ sizes.own_actions) × (sizes.own_actions ≤ 6)
   pub informed_actions : (1 ≤ sizes.informed_actions) × (sizes.informed_actions ≤ 6)
   pub observations : (1 ≤ sizes.observations) × (sizes.observations ≤ 8)
-
--- the fault is the first refused line with its least kind, or want of memory
-abbrev pub IsFaultOf : List Line → TextFault → Type 0
-IsFaultOf lines (text.Line number kind) = Refuses lines number kind
-IsFaultOf lines text.OutOfMemory = ⊤

@@ -5,7 +5,7 @@ ghost use Rattle.game_text.specs.Built.{IsEnded};
 ghost use Rattle.game_text.specs.Fault.{Gives};
 ghost use Rattle.game_text.specs.Place.{IsPlace, IsOpen, FitsPlace, entry_in, place_of, place_after, row_at, said};
 ghost use Rattle.game_text.specs.Reading.{Reads};
-ghost use Rattle.game_text.specs.Header.{IsFaultOf};
+ghost use Rattle.game_text.specs.Answers.{IsFaultOf};
 ghost use Rattle.game_text.specs.Entries.{Entry};
 
 use crate::fault::{LineFault, TextFault, numbered};

@@ -1,4 +1,5 @@
-ghost use Rattle.std.specs.Prelude.{◌≡◌, IfOk, OnOk};
+ghost use Rattle.std.specs.Prelude.{◌≡◌, IfErr, IfOk, OnOk};
+ghost use Rattle.game_text.specs.declared.fault.TextFault.TheVariants as texts;
 ghost use Rattle.game_text.specs.Built.{IsBuilt, IsSaid, IsEnded, with_entry};
 ghost use Rattle.game_text.specs.Header.{said_by};
 ghost use Rattle.game_text.specs.Place.{said};
@@ -24,6 +25,7 @@ fn add(builder: &mut GameBuilder, entry: RowEntry) -> Result<(), GameFault>
 pub fn build(alloc: Global, header: &Header, entries: &[RowEntry]) -> Result<Game, TextFault>
     requires said { IsSaid (said entries.now (said_by header.now)) }
     ensures game { IfOk result (IsBuilt header.now.first.items (said entries.now (said_by header.now))) }
+    ensures others { IfErr result (λ fault. fault ≡ texts.OutOfMemory) }
 {
     let Ok(mut builder) = GameBuilder::new(alloc, header.shape, &header.first) else {
         return Err(TextFault::OutOfMemory);

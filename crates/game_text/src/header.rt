@@ -5,7 +5,8 @@ ghost use Rattle.game_model.specs.Game.{IsShape, IsWithin};
 ghost use Rattle.game_text.specs.Fault.{Gives};
 ghost use Rattle.game_text.specs.Reading.{Reads, first_of, line_at};
 ghost use Rattle.game_text.specs.Entries.{Entry, Version, Size, Total, Discount, First, shape_in, size_said, total_said, discount_said, first_said};
-ghost use Rattle.game_text.specs.Header.{AreSizes, IsFaultOf, said_by};
+ghost use Rattle.game_text.specs.Header.{AreSizes, said_by};
+ghost use Rattle.game_text.specs.Answers.{IsFaultOf};
 ghost use Rattle.game_text.specs.Limits.{IsDiscount};
 
 use crate::fault::{Kind, LineFault, TextFault, numbered};

@@ -1,14 +1,39 @@
-ghost use Rattle.std.specs.Prelude.{◌≡◌, ◌^◌, ◌≤◌, [], length, drop, IfOk, IfErr};
+ghost use Rattle.std.specs.Prelude.{◌≡◌, ◌+◌, ◌^◌, ◌<◌, ◌≤◌, [], length, drop, IfOk, IfErr};
 ghost use Rattle.game_text.specs.Text.{IsTextOf};
+ghost use Rattle.game_text.specs.Built.{EndsAfter};
 ghost use Rattle.game_text.specs.Answers.{IsRefused, IsRefusedAlone, IsNoFront, IsNoText, IsNotTrailing};
 
+use crate::body::read_rows;
 use crate::build::build;
 use crate::fault::{Kind, TextFault};
 use crate::header::read_header;
 use crate::place::{Latest, Place};
-use crate::body::read_rows;
-use game_model::Game;
+use game_model::{Game, law_game};
 use std::alloc::Global;
+
+/// Reads a game text at the front of the bytes. Answers the game, how many lines it has, and the place after them.
+fn read_front(alloc: Global, bytes: &[u8]) -> Result<(Game, u32, usize), TextFault>
+    requires { length bytes.now ≤ 2 ^ 27 }
+    ensures place { IfOk result (λ found. found.2 ≤ length bytes.now) }
+    ensures few { IfOk result (λ found. found.1 < 2 ^ 31) }
+    ensures ends { IfOk result (λ found. EndsAfter bytes.now found.1 (drop found.2 bytes.now)) }
+    ensures game { IfOk result (λ found. IsTextOf found.0 bytes.now (drop found.2 bytes.now)) }
+    ensures refused { IfErr result (IsRefused bytes.now) }
+{
+    let (header, body) = read_header(alloc, bytes)?;
+    let start = Place {
+        shape: header.shape,
+        begun: 0,
+        sum: 0,
+        latest: Latest::Start,
+    };
+    let (entries, rest) = read_rows(alloc, start, body)?;
+    let game = build(alloc, &header, &entries)?;
+    law_game(&game);
+    let lines = 5 + entries.len() as u32;
+    let place = bytes.len() - rest.len();
+    Ok((game, lines, place))
+}
 
 /// Reads a game text at the front of the bytes. Answers the game, and the place after its `end` line.
 ///
@@ -24,16 +49,8 @@ pub fn read(alloc: Global, bytes: &[u8]) -> Result<(Game, usize), TextFault>
     ensures not_trailing { IfErr result IsNotTrailing }
     ensures no_game { IfErr result (IsNoFront bytes.now) }
 {
-    let (header, rest) = read_header(alloc, bytes)?;
-    let start = Place {
-        shape: header.shape,
-        begun: 0,
-        sum: 0,
-        latest: Latest::Start,
-    };
-    let (entries, rest) = read_rows(alloc, start, rest)?;
-    let game = build(alloc, &header, &entries)?;
-    Ok((game, bytes.len() - rest.len()))
+    let (game, _, place) = read_front(alloc, bytes)?;
+    Ok((game, place))
 }
 
 /// Reads a game text that is the whole of the bytes.
@@ -48,20 +65,12 @@ pub fn read_alone(alloc: Global, bytes: &[u8]) -> Result<Game, TextFault>
     ensures refused { IfErr result (IsRefusedAlone bytes.now) }
     ensures no_game { IfErr result (IsNoText bytes.now) }
 {
-    let (game, end) = read(alloc, bytes)?;
-    if end < bytes.len() {
-        let line = lines(&bytes[..end]) + 1;
+    let (game, lines, place) = read_front(alloc, bytes)?;
+    if place < bytes.len() {
         return Err(TextFault::Line {
-            line,
+            line: lines + 1,
             kind: Kind::Trailing,
         });
     }
     Ok(game)
-}
-
-/// How many lines the bytes have.
-fn lines(bytes: &[u8]) -> u32
-    requires { length bytes.now ≤ 2 ^ 27 }
-{
-    bytes.iter().filter(|b| **b == b'\n').count() as u32
 }

@@ -1,7 +1,7 @@
 -- Whole lines: a line that is written is read back as its words.
 use Rattle.std.proofs.Common.{◌≡◌, ℕ, zero, suc, ◌+◌, ◌<◌, ◌≤◌, Bool, true, false, cond, not, eqb, ltb, List, [], ◌∷◌, ◌++◌, length, get_or, take, drop, map, refl, sym, ap, subst, ◌∙◌, arith, append_assoc}
 use Rattle.std.specs.List.{AllByRecursion, slice_split, onto_first, join_with_byte, after_first, before_first, position_or_len}
-use Rattle.std.proofs.lemmas.List.{drop_more}
+use Rattle.std.proofs.lemmas.List.{drop_more, length-drop}
 use Rattle.std.proofs.lemmas.List.Sums.{passes_at_first}
 use Rattle.std.proofs.lemmas.List.Splits.{slice_split-cons_yes, slice_split-cons_no, length-slice_split, slice_split_first, join_with_byte-slice_split}
 use Rattle.std.proofs.lemmas.Bool.{eqb-true, ltb-true, ltb-false}
@@ -171,3 +171,9 @@ pub after_lines-add : (m n : ℕ) (text : List ℕ) → after_lines (m + n) text
 unfolding after_lines
 after_lines-add zero n text = let e : 0 + n ≡ n = omega arith in ap (λ (k : ℕ). after_lines k text) e
 after_lines-add (suc m) n text = let e : suc m + n ≡ suc (m + n) = omega arith in rw e (after_lines-add m n (after_first is_feed text))
+
+pub after_lines-length : (count : ℕ) (text : List ℕ) → length (after_lines count text) ≤ length text
+unfolding after_lines
+after_lines-length zero text = omega arith
+after_lines-length (suc count) text =
+    omega (arith, after_lines-length count (after_first is_feed text), length-drop (position_or_len is_feed text + 1) text)

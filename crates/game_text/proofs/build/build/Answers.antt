@@ -22,7 +22,6 @@ pub loop-entry-preserved : goal.loop-entry-preserved
 loop-entry-preserved c =
     built_step c.args.header.now.first.items c.args.entries.now c.loop-entry.entry-index _ (said_by c.args.header.now) c.loop-entry.builder c.add.new.builder (omega arith) c.loop-entry.invariant c.in-Ok-add.ensures
 
-pub returns : goal.returns
-returns c = record {
-  game = built_all c.args.header.now.first.items c.args.entries.now c.loop-entry.entry-index (said_by c.args.header.now) c.loop-entry.builder c.in-Ok-finish.game (omega arith) c.loop-entry.invariant c.in-Ok-finish.ensures.built;
-}
+pub returns-clause-game : goal.returns-clause-game
+returns-clause-game c =
+    built_all c.args.header.now.first.items c.args.entries.now c.loop-entry.entry-index (said_by c.args.header.now) c.loop-entry.builder c.in-Ok-finish.game (omega arith) c.loop-entry.invariant c.in-Ok-finish.ensures.built
