@@ -12,3 +12,5 @@ pub mod Coprime
 pub mod Accept
 pub mod Building
 pub mod Final
+pub mod Earlier
+pub mod Refusals
