@@ -1,0 +1,16 @@
+pub mod Words
+pub mod Widths
+pub mod Reading
+pub mod RowSteps
+pub mod OneReading
+pub mod Guards
+pub mod Said
+pub mod Runs
+pub mod Spells
+pub mod Bytes
+pub mod Coprime
+pub mod Accept
+pub mod Building
+pub mod Final
+pub mod Earlier
+pub mod Refusals

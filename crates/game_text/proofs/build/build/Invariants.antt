@@ -1,0 +1,8 @@
+use Rattle.std.proofs.Common.{take}
+use Rattle.game_text.specs.Built.{IsBuilt}
+use Rattle.game_text.specs.Header.{said_by}
+use Rattle.game_text.specs.Place.{said}
+use Rattle.game_text.proofs.build.build.Given as goal
+
+abbrev pub invariant-loop-entry : goal.invariant-loop-entry
+invariant-loop-entry l = IsBuilt l.header.first.items (said (take l.entry-index l.entries) (said_by l.header)) l.builder

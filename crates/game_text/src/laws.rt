@@ -1,0 +1,31 @@
+ghost use Rattle.game_text.specs.Laws.{LinesAreTexts, RefusedOnce, TextsAreGames, TextsAreNotRefused, TextsAreRead, WholeTextsAreNotRefused};
+
+/// A law: a text is of one game, and ends at one place.
+pub fn law_games()
+    ensures { TextsAreGames }
+{}
+
+/// A law: lines that are accepted are a text of a game.
+pub fn law_accepted()
+    ensures { LinesAreTexts }
+{}
+
+/// A law: each text of a game is accepted.
+pub fn law_read()
+    ensures { TextsAreRead }
+{}
+
+/// A law: a text is refused at one line, with one kind.
+pub fn law_refused_once()
+    ensures { RefusedOnce }
+{}
+
+/// A law: what begins with a text of a game is not refused.
+pub fn law_not_refused()
+    ensures { TextsAreNotRefused }
+{}
+
+/// A law: a whole text of a game is not refused where it is read alone.
+pub fn law_whole_not_refused()
+    ensures { WholeTextsAreNotRefused }
+{}
