@@ -130,6 +130,6 @@ pub earns_whole : SeedsEarn → TextsAreGames → (words : List (List ℕ)) (lef
 earns_whole earn games words None room old written status text due wrote e = tt
 earns_whole earn games words (Some left) room old written status text (input, is, answer, has) wrote e = λ g text_of.
     let here : Answers (command_of words) left Done text =
-        subst (λ (input : List ℕ). Answers (command_of words) input Done text) (sym is) (subst (λ (s : Status). Answers (command_of words) input s text) e answer) in
+    subst (λ (input : List ℕ). Answers (command_of words) input Done text) (sym is) (subst (λ (s : Status). Answers (command_of words) input s text) e answer) in
     let found = promise earn games (command_of words) left text here g text_of in
     (found.0, found.1, subst (Wrote room old written) found.2 wrote, found.3, found.4)

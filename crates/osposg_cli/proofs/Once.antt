@@ -45,9 +45,9 @@ floor-once one g a b x y f h = (same_action, equal x y low high)
 
     same_action : a ≡ b
     same_action = elim (cases_order a b) [
-      inl e ↦ e
+      | inl e ↦ e
       | inr l ↦ elim l [
-        inl l ↦ absurd (not_less x y high (subst (λ (z : ℤ). z <ℤ y) (sym (products-same one g a b x y f h a f.inside) ∙ f.value) (h.before a l)))
+        | inl l ↦ absurd (not_less x y high (subst (λ (z : ℤ). z <ℤ y) (sym (products-same one g a b x y f h a f.inside) ∙ f.value) (h.before a l)))
         | inr l ↦ absurd (not_less y x low (subst (λ (z : ℤ). z <ℤ x) (products-same one g a b x y f h b h.inside ∙ h.value) (f.before b l)))
       ]
     ]

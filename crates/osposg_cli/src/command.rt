@@ -12,7 +12,6 @@ ghost use Rattle.std.specs.String.{string_bytes};
 use crate::floor::{best_action, floor_text};
 use crate::status::Status;
 use crate::words::{Command, parse};
-
 use game_model::law_seeds;
 use game_text::{Kind, TextFault, law_games, law_refused_once, law_whole_not_refused, read_alone};
 use hsvi_io::{ReadEnd, Sink, Source, read_all, write_all};
@@ -30,7 +29,12 @@ struct Answer {
 
 /// Runs the command that the words name, without the program's own name. The whole text is made before its first byte
 /// is written.
-pub fn run<I: Source, O: Sink>(alloc: Global, words: &[String], input: &mut I, output: &mut O) -> Status
+pub fn run<I: Source, O: Sink>(
+    alloc: Global,
+    words: &[String],
+    input: &mut I,
+    output: &mut O,
+) -> Status
     // A text is written whole, or a front of it at a fault of the sink, or nothing.
     ensures ends { Ends (map string_bytes words.now) (I.left input.old) (I.left input.new) (O.room output.old) (O.written output.old) (O.written output.new) result }
     // An answer to an input says that the input was read to its end.

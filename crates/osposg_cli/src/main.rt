@@ -10,9 +10,8 @@ mod tests;
 mod words;
 
 pub use command::run;
-pub use status::Status;
-
 use hsvi_io::{StdSink, StdSource};
+pub use status::Status;
 use std::env;
 use std::io::{self, ErrorKind};
 use std::process::ExitCode;

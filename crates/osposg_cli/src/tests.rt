@@ -48,7 +48,12 @@ fn words(alloc: Global, texts: &[&str]) -> Result<Vec<String>, Fail> {
 }
 
 /// The status of a run over ends that never fail, and whether it writes just this text.
-fn answered(alloc: Global, command: &[&str], input: &[u8], text: &str) -> Result<(Status, bool), Fail> {
+fn answered(
+    alloc: Global,
+    command: &[&str],
+    input: &[u8],
+    text: &str,
+) -> Result<(Status, bool), Fail> {
     let words = words(alloc, command)?;
     let mut source = SureSource::new(input);
     let mut sink = SureSink::new(alloc, 1024)?;
@@ -61,7 +66,8 @@ fn floor_writes_the_bounds_of_worked_games(rt: HostRuntime) -> Result<(), Fail> 
     let alloc = rt.alloc();
     let five = text_of(alloc, &FIVE_EACH_TIME)?;
     assert!(rt; answered(alloc, &["floor"], five.as_bytes(), FIVE_BOUND)? == (Status::Done, true));
-    let edge = "osposg 1\nsize 1 1 1 1\ntotal 4\ndiscount 0 1048576\nfirst 1\nstep 0 0 0 1073741824\nout 0 0 4\nend\n";
+    let edge =
+        "osposg 1\nsize 1 1 1 1\ntotal 4\ndiscount 0 1048576\nfirst 1\nstep 0 0 0 1073741824\nout 0 0 4\nend\n";
     let bound = "action 0\nlower 70368744177664/65536\ntail 70368744177664/65536\n";
     assert!(rt; answered(alloc, &["floor"], edge.as_bytes(), bound)? == (Status::Done, true));
     Ok(())
@@ -84,7 +90,10 @@ fn refused_games_name_the_first_line_and_its_least_kind(rt: HostRuntime) -> Resu
     ];
     for (number, line, refusal) in changed {
         let text = five_with(alloc, number, line)?;
-        assert!(rt; answered(alloc, &["floor"], text.as_bytes(), refusal)? == (Status::GameRefused, true), "{line}");
+        assert!(rt;
+            answered(alloc, &["floor"], text.as_bytes(), refusal)? == (Status::GameRefused, true),
+            "{line}"
+        );
     }
     Ok(())
 }
@@ -109,7 +118,10 @@ fn refused_games_of_other_lengths_and_widths(rt: HostRuntime) -> Result<(), Fail
         ),
     ];
     for (text, refusal) in refused {
-        assert!(rt; answered(alloc, &["floor"], text.as_bytes(), refusal)? == (Status::GameRefused, true), "{refusal}");
+        assert!(rt;
+            answered(alloc, &["floor"], text.as_bytes(), refusal)? == (Status::GameRefused, true),
+            "{refusal}"
+        );
     }
     Ok(())
 }
@@ -117,8 +129,16 @@ fn refused_games_of_other_lengths_and_widths(rt: HostRuntime) -> Result<(), Fail
 #[test]
 fn other_words_are_refused_and_nothing_is_read(rt: HostRuntime) -> Result<(), Fail> {
     let alloc = rt.alloc();
-    for command in [[].as_slice(), &["--"], &["Floor"], &["floor", "floor"], &["solve", "--trials", "10001"]] {
-        assert!(rt; answered(alloc, command, b"", "words refused\n")? == (Status::WordsRefused, true));
+    for command in [
+        [].as_slice(),
+        &["--"],
+        &["Floor"],
+        &["floor", "floor"],
+        &["solve", "--trials", "10001"],
+    ] {
+        assert!(rt;
+            answered(alloc, command, b"", "words refused\n")? == (Status::WordsRefused, true)
+        );
     }
     Ok(())
 }

@@ -22,7 +22,7 @@ loop-action-preserved c =
     let same : to_z w128 (of_z w128 c.seed_product-lower.result) ≡ c.seed_product-lower.result = to_z-of_z {w = w128} (search rules) in
     let kept : to_z w128 (of_z w128 c.loop-action.best.lower) ≡ c.loop-action.best.lower = to_z-of_z {w = w128} (search rules) in
     elim c.if-lower-best.branch [
-      then-lower-best w ↦ subst best (sym w.best-is) (new-best g _ _ _ _ c.loop-action.invariant (subst (IsSeedProduct g c.loop-action.action) (sym same) c.seed_product-lower.ensures) (grind (arith, ints, same, kept, w.if-lower-best.true)))
+      | then-lower-best w ↦ subst best (sym w.best-is) (new-best g _ _ _ _ c.loop-action.invariant (subst (IsSeedProduct g c.loop-action.action) (sym same) c.seed_product-lower.ensures) (grind (arith, ints, same, kept, w.if-lower-best.true)))
       | else-lower-best w ↦ subst best (sym w.best-is) (kept-best g _ _ _ _ c.loop-action.invariant c.seed_product-lower.ensures (grind (arith, ints, same, kept, w.if-lower-best.false)))
     ]
 
