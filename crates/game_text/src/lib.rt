@@ -9,6 +9,8 @@ mod header;
 mod laws;
 mod place;
 mod rows;
+#[cfg(test)]
+mod tests;
 mod texts;
 
 pub use fault::{Kind, TextFault};
