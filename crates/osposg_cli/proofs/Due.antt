@@ -3,18 +3,24 @@ use Rattle.std.proofs.Common.{◌≡◌, ◌⊎◌, ℕ, ◌+◌, ◌<◌, ◌�
 use Rattle.std.proofs.lemmas.Option.{none-some}
 use Rattle.std.proofs.lemmas.List.{append-nil}
 use Rattle.std.specs.Result.{MatchResult, IfOk, IsErrAnd}
-use Rattle.std.specs.Prelude.{ℤ, IfSome}
+use Rattle.std.specs.Prelude.{ℤ, IfSome, ◌↔◌}
 use Rattle.hsvi_io.specs.Bytes.{GaveAll, GaveFront, GaveTooMany, Wrote, WroteFront}
 use Rattle.hsvi_io.specs.Causes.{Rose}
-use Rattle.game_model.specs.Game.{GameData, first_at, numbers, span}
+use Rattle.cert_text.specs.Answers.{IsTextFor}
+use Rattle.cert_text.specs.Laws.{OneCertificate}
+use Rattle.controller.proofs.Places.{rules}
+use Rattle.controller.specs.Certificates.{CertificateData, CertificateStands, Closed, Ending, Full, IsWithinGap, OutcomeHolds, Trials}
+use Rattle.game_model.specs.Game.{GameData, IsGame, first_at, numbers, span}
+use Rattle.history_model.specs.Halves.{LowerHolds, UpperHolds}
+use Rattle.osposg_cli.specs.Check.{IsYesText, Proves}
 use Rattle.game_model.specs.Seeds.{SeedsEarn}
 use Rattle.game_model.proofs.Games.{keeps-span}
 use Rattle.game_text.specs.Laws.{TextsAreGames}
 use Rattle.game_text.specs.Text.{IsTextOf}
 use Rattle.osposg_cli.specs.declared.status.Status.{Status}
-use Rattle.osposg_cli.specs.declared.status.Status.TheVariants.{Done, GameRefused, WordsRefused, ReadFault, WriteFault, OutOfMemory, TooLong}
+use Rattle.osposg_cli.specs.declared.status.Status.TheVariants.{Done, No, GameRefused, CertRefused, WordsRefused, ReadFault, WriteFault, OutOfMemory, TooLong}
 use Rattle.osposg_cli.specs.declared.words.Command.{Command}
-use Rattle.osposg_cli.specs.declared.words.Command.TheVariants.{Floor}
+use Rattle.osposg_cli.specs.declared.words.Command.TheVariants.{Check, Floor}
 use Rattle.osposg_cli.specs.Answer.{Answers, AnswersAreOne, Ends, HasText, IsDue, IsEarly, IsInput, IsWork, most_input, words_refused}
 use Rattle.osposg_cli.specs.Floor.{FloorEarns, floor_text}
 use Rattle.osposg_cli.specs.Words.{command_of}
@@ -37,12 +43,23 @@ due_refused words left status text none e t =
 
 answers-work : (command : Command) (input : List ℕ) (status : Status) (text : List ℕ) → length input ≤ most_input → IsWork command input status text → Answers (Some command) input status text × HasText status
 answers-work Floor input Done text l h = ((l, h), tt)
+answers-work Floor input No text l h = absurd h
 answers-work Floor input GameRefused text l h = ((l, h), tt)
+answers-work Floor input CertRefused text l h = absurd h
 answers-work Floor input WordsRefused text l h = absurd h
 answers-work Floor input ReadFault text l h = absurd h
 answers-work Floor input WriteFault text l h = absurd h
 answers-work Floor input OutOfMemory text l h = absurd h
 answers-work Floor input TooLong text l h = absurd h
+answers-work Check input Done text l h = ((l, h), tt)
+answers-work Check input No text l h = ((l, h), tt)
+answers-work Check input GameRefused text l h = ((l, h), tt)
+answers-work Check input CertRefused text l h = ((l, h), tt)
+answers-work Check input WordsRefused text l (g, rest, is, k, at, verdict) = absurd verdict
+answers-work Check input ReadFault text l (g, rest, is, k, at, verdict) = absurd verdict
+answers-work Check input WriteFault text l (g, rest, is, k, at, verdict) = absurd verdict
+answers-work Check input OutOfMemory text l (g, rest, is, k, at, verdict) = absurd verdict
+answers-work Check input TooLong text l (g, rest, is, k, at, verdict) = absurd verdict
 
 pub due_work : (words : List (List ℕ)) (left new : Option (List ℕ)) (command : Command) (bytes : List ℕ) (status : Status) (text : List ℕ) →
     command_of words ≡ Some command → GaveAll left new bytes → length bytes ≤ most_input → IsWork command bytes status text → IsDue words left status text
@@ -57,7 +74,9 @@ due_work words (Some left) new command bytes status text named gave few h =
 pub ends_whole : (words : List (List ℕ)) (left new : Option (List ℕ)) (room : ℕ) (old written : Option (List ℕ)) (status : Status) (text : List ℕ) →
     IsDue words left status text → Wrote room old written text → Ends words left new room old written status
 ends_whole words left new room old written Done text due wrote = (text, due, wrote)
+ends_whole words left new room old written No text due wrote = (text, due, wrote)
 ends_whole words left new room old written GameRefused text due wrote = (text, due, wrote)
+ends_whole words left new room old written CertRefused text due wrote = (text, due, wrote)
 ends_whole words left new room old written WordsRefused text due wrote = (text, due, wrote)
 ends_whole words left new room old written ReadFault text due wrote = absurd due.3
 ends_whole words left new room old written WriteFault text due wrote = absurd due.3
@@ -92,13 +111,15 @@ wrote_nothing room (Some before) = sym (append-nil before)
 long_answer : (command : Option Command) (bytes : List ℕ) (other : Status) (more : List ℕ) → (command ≡ None → ⊥) → most_input < length bytes → Answers command bytes other more →
     (other ≡ TooLong) × (more ≡ [])
 long_answer None bytes other more named long h = absurd (named refl)
-long_answer (Some Floor) bytes TooLong more named long h = (refl, h.1)
-long_answer (Some Floor) bytes Done more named long h = absurd (lt_irrefl (length bytes) (let l = h.0 in omega arith))
-long_answer (Some Floor) bytes GameRefused more named long h = absurd (lt_irrefl (length bytes) (let l = h.0 in omega arith))
-long_answer (Some Floor) bytes WordsRefused more named long h = absurd h.1
-long_answer (Some Floor) bytes ReadFault more named long h = absurd h.1
-long_answer (Some Floor) bytes WriteFault more named long h = absurd h.1
-long_answer (Some Floor) bytes OutOfMemory more named long h = absurd h.1
+long_answer (Some command) bytes Done more named long h = absurd (lt_irrefl (length bytes) (let l = h.0 in omega arith))
+long_answer (Some command) bytes No more named long h = absurd (lt_irrefl (length bytes) (let l = h.0 in omega arith))
+long_answer (Some command) bytes GameRefused more named long h = absurd (lt_irrefl (length bytes) (let l = h.0 in omega arith))
+long_answer (Some command) bytes CertRefused more named long h = absurd (lt_irrefl (length bytes) (let l = h.0 in omega arith))
+long_answer (Some command) bytes WordsRefused more named long h = absurd (lt_irrefl (length bytes) (let l = h.0 in omega arith))
+long_answer (Some command) bytes ReadFault more named long h = absurd (lt_irrefl (length bytes) (let l = h.0 in omega arith))
+long_answer (Some command) bytes WriteFault more named long h = absurd (lt_irrefl (length bytes) (let l = h.0 in omega arith))
+long_answer (Some command) bytes OutOfMemory more named long h = absurd (lt_irrefl (length bytes) (let l = h.0 in omega arith))
+long_answer (Some command) bytes TooLong more named long h = (refl, h.1)
 
 -- an early end, where the source did not fail
 pub complete_early : (words : List (List ℕ)) (left new : Option (List ℕ)) (room : ℕ) (old : Option (List ℕ)) (bytes : List ℕ) (status other : Status) (more : List ℕ) →
@@ -111,25 +132,68 @@ complete_early words left new room old bytes TooLong other more e (named, gave) 
     let found = long_answer (command_of words) bytes other more (λ none. none-some named.0 (sym none ∙ named.1)) long h in
     inl (sym found.0, subst (Wrote room old old) (sym found.1) (wrote_nothing room old))
 complete_early words left new room old bytes Done other more e early fault h = absurd early
+complete_early words left new room old bytes CertRefused other more e early fault h = absurd early
+complete_early words left new room old bytes No other more e early fault h = absurd early
 complete_early words left new room old bytes GameRefused other more e early fault h = absurd early
 complete_early words left new room old bytes WordsRefused other more e early fault h = absurd early
 complete_early words left new room old bytes WriteFault other more e early fault h = absurd early
 
 -- ---- the promise of `floor`
-promise : SeedsEarn → TextsAreGames → (command : Option Command) (bytes text : List ℕ) → Answers command bytes Done text → (g : GameData) → IsTextOf g bytes [] →
+promise : SeedsEarn → TextsAreGames → (bytes text : List ℕ) → Answers (Some Floor) bytes Done text → (g : GameData) → IsTextOf g bytes [] →
     (a : ℕ) × (lower : ℤ) × (text ≡ floor_text g a lower) × (a < g.shape.own_actions) × FloorEarns g a lower
-promise earn games None bytes text h g is = absurd h
-promise earn games (Some Floor) bytes text (few, (h, a, lower, at, floor, t)) g is =
+promise earn games bytes text (few, (h, a, lower, at, floor, t)) g is =
     let same : h ≡ g = (games bytes [] h g [] at is).0 in
     subst (λ (k : GameData). (a : ℕ) × (lower : ℤ) × (text ≡ floor_text k a lower) × (a < k.shape.own_actions) × FloorEarns k a lower) same
     (a, lower, t, floor.inside, earn (numbers h) (span h) a (floor.vectors a) (first_at h) lower (keeps-span h at.game) floor.inside (floor.seeds a floor.inside) floor.value)
 
+-- the answer that is due at Done
+at_done : (words : List (List ℕ)) (left : List ℕ) (command : Command) (status : Status) (text : List ℕ) →
+    IsDue words (Some left) status text → status ≡ Done → command_of words ≡ Some command → Answers (Some command) left Done text
+at_done words left command status text (input, is, answer, has) e named =
+    subst (λ (c : Option Command). Answers c left Done text) named
+    (subst (λ (input : List ℕ). Answers (command_of words) input Done text) (sym is) (subst (λ (s : Status). Answers (command_of words) input s text) e answer))
+
 pub earns_whole : SeedsEarn → TextsAreGames → (words : List (List ℕ)) (left : Option (List ℕ)) (room : ℕ) (old written : Option (List ℕ)) (status : Status) (text : List ℕ) →
-    IsDue words left status text → Wrote room old written text → status ≡ Done →
+    IsDue words left status text → Wrote room old written text → status ≡ Done → command_of words ≡ Some Floor →
     IfSome left (λ bytes. (g : GameData) → IsTextOf g bytes [] → (a : ℕ) × (lower : ℤ) × Wrote room old written (floor_text g a lower) × (a < g.shape.own_actions) × FloorEarns g a lower)
-earns_whole earn games words None room old written status text due wrote e = tt
-earns_whole earn games words (Some left) room old written status text (input, is, answer, has) wrote e = λ g text_of.
-    let here : Answers (command_of words) left Done text =
-    subst (λ (input : List ℕ). Answers (command_of words) input Done text) (sym is) (subst (λ (s : Status). Answers (command_of words) input s text) e answer) in
-    let found = promise earn games (command_of words) left text here g text_of in
+earns_whole earn games words None room old written status text due wrote e named = tt
+earns_whole earn games words (Some left) room old written status text due wrote e named = λ g text_of.
+    let found = promise earn games left text (at_done words left Floor status text due e named) g text_of in
     (found.0, found.1, subst (Wrote room old written) found.2 wrote, found.3, found.4)
+
+-- ---- the promise of `check`
+proved : LowerHolds → UpperHolds → (g : GameData) (k : CertificateData) → IsGame g → CertificateStands g k → Proves g k
+proved low high g k game stands =
+    let keeps = keeps-span g game in
+    record {
+      stands = stands;
+      own = low.plan g k stands;
+      lower = low.family g k keeps stands;
+      lower_at = low.state g k keeps stands;
+      hold = high.plan g k stands;
+      upper = high.half g k keeps stands;
+      closed = closed_is k k.outcome refl (rules g k stands.holds).outcome;
+    }
+  where
+    closed_is : (k : CertificateData) (ending : Ending) → k.outcome ≡ ending → OutcomeHolds k k.outcome → (k.outcome ≡ Closed) ↔ IsWithinGap k
+    closed_is k Closed e h = (λ c. subst (OutcomeHolds k) e h, λ w. e)
+    closed_is k Trials e h = (λ c. absurd (not_closed (sym e ∙ c)), λ w. absurd (subst (OutcomeHolds k) e h w))
+      where
+        not_closed : Trials ≡ Closed → ⊥
+        not_closed ()
+    closed_is k Full e h = (λ c. absurd (not_closed (sym e ∙ c)), λ w. absurd (subst (OutcomeHolds k) e h w))
+      where
+        not_closed : Full ≡ Closed → ⊥
+        not_closed ()
+
+pub proves_whole : LowerHolds → UpperHolds → TextsAreGames → OneCertificate → (words : List (List ℕ)) (left : Option (List ℕ)) (room : ℕ) (old written : Option (List ℕ)) (status : Status) (text : List ℕ) →
+    IsDue words left status text → Wrote room old written text → status ≡ Done → command_of words ≡ Some Check →
+    IfSome left (λ bytes. (g : GameData) × (rest : List ℕ) × (k : CertificateData) × (yes : List ℕ) × IsTextOf g bytes rest × IsTextFor g k rest
+    × IsYesText k yes × Wrote room old written yes × Proves g k)
+proves_whole low high games one words None room old written status text due wrote e named = tt
+proves_whole low high games one words (Some left) room old written status text due wrote e named =
+    from (at_done words left Check status text due e named)
+  where
+    from : Answers (Some Check) left Done text → (g : GameData) × (rest : List ℕ) × (k : CertificateData) × (yes : List ℕ) × IsTextOf g left rest × IsTextFor g k rest
+    × IsYesText k yes × Wrote room old written yes × Proves g k
+    from (few, (g, rest, is, (k, at, (stands, yes)))) = (g, rest, k, text, is, at, yes, wrote, proved low high g k is.game stands)

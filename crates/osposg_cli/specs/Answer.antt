@@ -3,15 +3,17 @@ use Rattle.std.specs.Prelude.{◌≡◌, ◌⊎◌, ℕ, ℤ, ◌+◌, ◌^◌, 
 use Rattle.game_model.specs.Game.{GameData}
 use Rattle.game_text.specs.declared.fault.Kind.{Kind}
 use Rattle.game_text.specs.Fault.{number_of_kind}
-use Rattle.game_text.specs.Reading.{RefusesAlone}
+use Rattle.game_text.specs.Reading.{Refuses, RefusesAlone}
 use Rattle.game_text.specs.Text.{IsTextOf}
 use Rattle.hsvi_io.specs.Bytes.{GaveFront, GaveTooMany, Wrote, WroteFront}
 use Rattle.osposg_cli.specs.declared.status.Status.{Status}
-use Rattle.osposg_cli.specs.declared.status.Status.TheVariants.{Done, GameRefused, WordsRefused, ReadFault, WriteFault, OutOfMemory, TooLong}
+use Rattle.osposg_cli.specs.declared.status.Status.TheVariants.{Done, No, GameRefused, CertRefused, WordsRefused, ReadFault, WriteFault, OutOfMemory, TooLong}
 use Rattle.osposg_cli.specs.declared.words.Command.{Command}
-use Rattle.osposg_cli.specs.declared.words.Command.TheVariants.{Floor}
+use Rattle.osposg_cli.specs.declared.words.Command.TheVariants.{Check, Floor}
+use Rattle.osposg_cli.specs.Check.{IsJudged}
 use Rattle.osposg_cli.specs.Floor.{IsFloor, floor_text}
 use Rattle.osposg_cli.specs.Words.{command_of}
+use Rattle.text_words.specs.Lines.{lines_of}
 
 -- the most bytes of an input
 abbrev pub most_input : ℕ
@@ -27,7 +29,9 @@ game_refused line kind = codes "game refused: line " ++ (decimal line ++ (codes 
 abbrev pub IsWork : Command → List ℕ → Status → List ℕ → Type 0
 IsWork Floor input Done text = (g : GameData) × (a : ℕ) × (lower : ℤ) × IsTextOf g input [] × IsFloor g a lower × (text ≡ floor_text g a lower)
 IsWork Floor input GameRefused text = (line : ℕ) × (kind : Kind) × RefusesAlone input line kind × (text ≡ game_refused line kind)
-IsWork command input status text = ⊥
+IsWork Floor input status text = ⊥
+IsWork Check input GameRefused text = (line : ℕ) × (kind : Kind) × Refuses (lines_of input) line kind × (text ≡ game_refused line kind)
+IsWork Check input status text = (g : GameData) × (rest : List ℕ) × IsTextOf g input rest × IsJudged g rest status text
 
 -- What is answered to an input where the words name this command, or none: a status, and the text that is written.
 abbrev pub Answers : Option Command → List ℕ → Status → List ℕ → Type 0
@@ -39,6 +43,8 @@ Answers (Some command) input status text = (length input ≤ most_input) × IsWo
 -- an answer of this status has a text
 abbrev pub HasText : Status → Type 0
 HasText Done = ⊤
+HasText No = ⊤
+HasText CertRefused = ⊤
 HasText GameRefused = ⊤
 HasText WordsRefused = ⊤
 HasText status = ⊥

@@ -1,3 +1,4 @@
 pub mod Words
 pub mod Floor
+pub mod Check
 pub mod Answer

@@ -1,31 +1,29 @@
+ghost use Rattle.cert_text.specs.Answers.{IsTextFor};
+ghost use Rattle.controller.specs.Certificates.{CertificateData};
 ghost use Rattle.game_model.specs.Game.{GameData};
-ghost use Rattle.game_text.specs.Fault.{number_of_kind};
 ghost use Rattle.game_text.specs.Text.{IsTextOf};
 ghost use Rattle.hsvi_io.specs.Bytes.{Wrote};
 ghost use Rattle.hsvi_io.specs.Causes.{Rose};
-ghost use Rattle.osposg_cli.specs.Answer.{Answers, AnswersAreOne, Ends, IsDue, IsEarly, IsReadToEnd, IsWork, NamesCommand, game_refused, words_refused};
-ghost use Rattle.osposg_cli.specs.Floor.{FloorEarns, IsFloor, floor_text};
+ghost use Rattle.osposg_cli.specs.Answer.{Answers, AnswersAreOne, Ends, IsDue, IsEarly, IsReadToEnd, NamesCommand, words_refused};
+ghost use Rattle.osposg_cli.specs.Check.{IsYesText, Proves};
+ghost use Rattle.osposg_cli.specs.Floor.{FloorEarns, floor_text};
 ghost use Rattle.osposg_cli.specs.Words.{command_of};
-ghost use Rattle.std.specs.Prelude.{IfErr, IfOk, IfSome, IsErrOf, List, None, OnOk, Some, ℕ, ℤ, [], length, map, ◌<◌, ◌^◌, ◌⊎◌, ◌≡◌, ◌≤◌};
+ghost use Rattle.osposg_cli.specs.declared.words.Command.TheVariants.{Check, Floor};
+ghost use Rattle.std.specs.Prelude.{IfErr, IfOk, IfSome, IsErrOf, List, None, OnOk, Some, ℕ, ℤ, [], map, ◌<◌, ◌⊎◌, ◌≡◌, ◌≤◌};
 ghost use Rattle.std.specs.String.{string_bytes};
 
-use crate::floor::{best_action, floor_text};
+use crate::answer::Answer;
 use crate::status::Status;
-use crate::words::{Command, parse};
+use crate::work::work;
+use crate::words::parse;
 use game_model::law_seeds;
-use game_text::{Kind, TextFault, law_games, law_refused_once, law_whole_not_refused, read_alone};
+use game_text::{law_games, law_not_refused, law_refused_once, law_whole_not_refused};
+use history_model::{law_controllers, law_splittings};
 use hsvi_io::{ReadEnd, Sink, Source, read_all, write_all};
 use std::alloc::{AllocError, Global};
 
 /// The most bytes of an input.
 const MOST_INPUT: usize = 1 << 26;
-
-/// A status with the text that is to be written.
-#[derive(Drop)]
-struct Answer {
-    status: Status,
-    text: Vec<u8>,
-}
 
 /// Runs the command that the words name, without the program's own name. The whole text is made before its first byte
 /// is written.
@@ -38,7 +36,7 @@ pub fn run<I: Source, O: Sink>(
     // A text is written whole, or a front of it at a fault of the sink, or nothing.
     ensures ends { Ends (map string_bytes words.now) (I.left input.old) (I.left input.new) (O.room output.old) (O.written output.old) (O.written output.new) result }
     // An answer to an input says that the input was read to its end.
-    ensures read { (result ≡ Status.Done) ⊎ (result ≡ Status.GameRefused) → IsReadToEnd (I.left input.old) (I.left input.new) }
+    ensures read { (result ≡ Status.Done) ⊎ (result ≡ Status.No) ⊎ (result ≡ Status.GameRefused) ⊎ (result ≡ Status.CertRefused) → IsReadToEnd (I.left input.old) (I.left input.new) }
     // Faults come only where the count of that very object rose.
     ensures read_fault { result ≡ Status.ReadFault → Rose (I.faults input.old) (I.faults input.new) }
     ensures write_fault { result ≡ Status.WriteFault → Rose (O.faults output.old) (O.faults output.new) }
@@ -55,12 +53,19 @@ pub fn run<I: Source, O: Sink>(
         → ((result ≡ status) × Wrote (O.room output.old) (O.written output.old) (O.written output.new) text)
         ⊎ ((result ≡ Status.OutOfMemory) × (O.written output.new ≡ O.written output.old)) }
     // What `floor` promises: the printed action earns the printed bound less the tail, against every plan of the informed player.
-    ensures floor_earns { result ≡ Status.Done → IfSome (I.left input.old) (λ bytes. (g : GameData) → IsTextOf g bytes [] →
+    ensures floor_earns { result ≡ Status.Done → command_of (map string_bytes words.now) ≡ Some Floor → IfSome (I.left input.old) (λ bytes. (g : GameData) → IsTextOf g bytes [] →
         (a : ℕ) × (lower : ℤ) × Wrote (O.room output.old) (O.written output.old) (O.written output.new) (floor_text g a lower) × (a < g.shape.own_actions) × FloorEarns g a lower) }
+    // What a yes of `check` promises: the bytes spell a game and a certificate, whose bounds are printed, and both halves hold of it.
+    ensures check_proves { result ≡ Status.Done → command_of (map string_bytes words.now) ≡ Some Check → IfSome (I.left input.old) (λ bytes.
+        (g : GameData) × (rest : List ℕ) × (k : CertificateData) × (yes : List ℕ) × IsTextOf g bytes rest × IsTextFor g k rest
+        × IsYesText k yes × Wrote (O.room output.old) (O.written output.old) (O.written output.new) yes × Proves g k) }
 {
     law_answers();
     law_games();
     law_seeds();
+    law_controllers();
+    law_splittings();
+    cert_text::law_one();
     match answer_to(alloc, words, input) {
         Ok(answer) => match write_all(output, &answer.text) {
             Ok(()) => answer.status,
@@ -74,10 +79,16 @@ pub fn run<I: Source, O: Sink>(
 fn law_answers()
     ensures { AnswersAreOne }
 {
+    law_seeds();
     law_games();
     law_refused_once();
+    law_not_refused();
     law_whole_not_refused();
-    law_seeds();
+    cert_text::law_one();
+    cert_text::law_read();
+    cert_text::law_refused_once();
+    cert_text::law_not_refused();
+    cert_check::law_once();
 }
 
 /// What is to be written, or how the run ends before there is a text.
@@ -108,40 +119,4 @@ fn words_refused(alloc: Global) -> Result<Answer, AllocError>
         status: Status::WordsRefused,
         text: Vec::from_slice(alloc, b"words refused\n")?,
     })
-}
-
-/// The answer of a command to its input.
-fn work(alloc: Global, command: Command, bytes: &[u8]) -> Result<Answer, AllocError>
-    requires { length bytes.now ≤ 2 ^ 26 }
-    ensures { IfOk result (λ answer. IsWork command bytes.now answer.status answer.text.items) }
-{
-    match command {
-        Command::Floor => floor(alloc, bytes),
-    }
-}
-
-/// The answer of `floor` to a game text.
-fn floor(alloc: Global, bytes: &[u8]) -> Result<Answer, AllocError>
-    requires { length bytes.now ≤ 2 ^ 26 }
-    ensures { IfOk result (λ answer. IsWork Command.Floor bytes.now answer.status answer.text.items) }
-{
-    match read_alone(alloc, bytes) {
-        Ok(game) => Ok(Answer {
-            status: Status::Done,
-            text: floor_text(alloc, &game, &best_action(&game))?,
-        }),
-        Err(TextFault::Line { line, kind }) => Ok(Answer {
-            status: Status::GameRefused,
-            text: game_refused(alloc, line, kind)?,
-        }),
-        Err(TextFault::OutOfMemory) => Err(AllocError),
-    }
-}
-
-/// The text of a refused game text.
-fn game_refused(alloc: Global, line: u32, kind: Kind) -> Result<Vec<u8>, AllocError>
-    ensures { IfOk result (λ text. text.items ≡ game_refused line kind) }
-{
-    let number = kind.number();
-    Ok(format!(in alloc; "game refused: line {line} kind {number}\n")?.into_bytes())
 }

@@ -2,12 +2,15 @@
 //! top call, and the program.
 #![tactic(auto)]
 
+mod answer;
 mod command;
 mod floor;
 mod status;
 #[cfg(test)]
 mod tests;
+mod verdict;
 mod words;
+mod work;
 
 pub use command::run;
 use hsvi_io::{StdSink, StdSource};

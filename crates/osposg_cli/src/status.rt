@@ -3,8 +3,12 @@
 pub enum Status {
     /// The answer was written.
     Done = 0,
+    /// The certificate does not stand; the first place that fails was written.
+    No = 1,
     /// The game text is refused; the line and the kind were written.
     GameRefused = 3,
+    /// The certificate text is refused; the line and the kind were written.
+    CertRefused = 4,
     /// The words name no command.
     WordsRefused = 5,
     /// The source failed; nothing was written.

@@ -7,6 +7,8 @@ ghost use Rattle.std.specs.String.{string_bytes};
 pub enum Command {
     /// The guaranteed bound of the best fixed action.
     Floor,
+    /// The verdict on a certificate.
+    Check,
 }
 
 /// The command that the words name, without the program's own name; `None` where they name none.
@@ -16,6 +18,7 @@ pub fn parse(words: &[String]) -> Option<Command>
 {
     match words {
         [word] if word.as_str() == "floor" => Some(Command::Floor),
+        [word] if word.as_str() == "check" => Some(Command::Check),
         _ => None,
     }
 }

@@ -1,5 +1,5 @@
 use Rattle.std.proofs.Common.{rules, ◌≡◌, subst, sym}
-use Rattle.osposg_cli.proofs.Due.{complete_early, complete_whole, earns_whole, ends_whole}
+use Rattle.osposg_cli.proofs.Due.{complete_early, complete_whole, earns_whole, ends_whole, proves_whole}
 use Rattle.osposg_cli.proofs.command.run.Goals as goal
 
 pub returns-in-Ok-write_all-clause-ends : goal.returns-in-Ok-write_all-clause-ends
@@ -15,3 +15,6 @@ returns-in-Ok-write_all-clause-floor_earns g c = earns_whole c.law_seeds.ensures
 pub returns-clause-complete : goal.returns-clause-complete
 returns-clause-complete g c bytes status text e answers calm still =
     complete_early _ _ _ _ _ bytes _ status text e c.in-Err.ensures.early (search rules) answers
+
+pub returns-in-Ok-write_all-clause-check_proves : goal.returns-in-Ok-write_all-clause-check_proves
+returns-in-Ok-write_all-clause-check_proves g c = proves_whole c.law_controllers.ensures c.law_splittings.ensures c.law_games.ensures c.law_one.ensures _ _ _ _ _ _ _ c.in-Ok.ensures.due (search rules)
