@@ -14,3 +14,4 @@ pub mod Building
 pub mod Final
 pub mod Earlier
 pub mod Refusals
+pub mod Taking
