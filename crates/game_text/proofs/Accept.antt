@@ -3,7 +3,7 @@ use Rattle.std.proofs.Common.{◌≡◌, ℕ, ◌≤◌, List, [], ◌∷◌, �
 use Rattle.std.specs.Prelude.{neg_ℤ}
 use Rattle.std.specs.Fmt.{signed_decimal}
 use Rattle.std.specs.List.{AllByRecursion}
-use Rattle.std.proofs.lemmas.List.{length-reverse}
+use Rattle.std.proofs.lemmas.List.{append_cancel_right, length-reverse}
 use Rattle.text_words.specs.Lines.{Line, lines_of, after_lines}
 use Rattle.text_words.proofs.Printed.{signed_decimal-above}
 use Rattle.text_words.proofs.Whole.{IsWord, IsWritten, lines_text, lines_of-front, lines_of-lines, after_lines-lines}
@@ -240,3 +240,8 @@ pub texts_are_read : (text rest : List ℕ) (g : GameData) → IsTextOf g text r
 texts_are_read text rest g t =
     let a = text_reads g text rest t in
     (a.count, entries_of g (scaled t.times g.first), a.reads, a.after)
+
+pub any_rest : (g : GameData) (front rest other : List ℕ) → IsTextOf g (front ++ rest) rest → IsTextOf g (front ++ other) other
+any_rest g front rest other t =
+    let same : front ≡ text_of g (scaled t.times g.first) = append_cancel_right front (text_of g (scaled t.times g.first)) rest t.same in
+    record { game = t.game; times = t.times; some = t.some; first = t.first; same = ap (λ (l : List ℕ). l ++ other) same }

@@ -1,4 +1,4 @@
-ghost use Rattle.game_text.specs.Laws.{LinesAreTexts, RefusedOnce, TextsAreGames, TextsAreNotRefused, TextsAreRead, WholeTextsAreNotRefused};
+ghost use Rattle.game_text.specs.Laws.{AnyRest, LinesAreTexts, RefusedOnce, TextsAreGames, TextsAreNotRefused, TextsAreRead, WholeTextsAreNotRefused};
 
 /// A law: a text is of one game, and ends at one place.
 pub fn law_games()
@@ -28,4 +28,9 @@ pub fn law_not_refused()
 /// A law: a whole text of a game is not refused where it is read alone.
 pub fn law_whole_not_refused()
     ensures { WholeTextsAreNotRefused }
+{}
+
+/// A law: a text of a game at the front of bytes is one whatever bytes follow it.
+pub fn law_any_rest()
+    ensures { AnyRest }
 {}
