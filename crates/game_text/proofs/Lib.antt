@@ -15,3 +15,4 @@ pub mod Final
 pub mod Earlier
 pub mod Refusals
 pub mod Taking
+pub mod Decided
