@@ -4,3 +4,5 @@ pub mod Lower
 pub mod Rows
 pub mod Family
 pub mod Example
+pub mod Seeds
+pub mod Plays

@@ -1,9 +1,21 @@
--- What is proved of plays and pay.
-use Rattle.std.specs.Prelude.{ℕ, suc, ◌*◌, ◌^◌, ◌≡◌, ◌<◌, ℤ, pos, ◌+ℤ◌, ◌-ℤ◌, ◌*ℤ◌, ◌≤ℤ◌, sum_by}
+-- What is proved of plays, pay, and the plan that always plays one action.
+use Rattle.std.specs.Prelude.{ℕ, suc, ◌*◌, ◌^◌, ◌≡◌, ◌<◌, ℤ, pos, ◌+ℤ◌, ◌-ℤ◌, ◌*ℤ◌, ◌≤ℤ◌, List, sum_by, Contains, AllPairs}
 use Rattle.scaled_num.specs.Sums.{below, total}
-use Rattle.game_model.specs.Numbers.{Numbers, over_row, RowsAreFull}
-use Rattle.game_model.specs.Plan.{OwnPlan, InformedPlan, IsOwnPlan, IsInformedPlan}
-use Rattle.game_model.specs.Play.{first_steps, own_after, informed_after, plays, play_weight, step_weight, pay, always}
+use Rattle.game_model.specs.Numbers.{Numbers, over_row, RowsAreFull, product}
+use Rattle.game_model.specs.Plan.{OwnPlan, InformedPlan, IsOwnPlan, IsInformedPlan, IsFamily}
+use Rattle.game_model.specs.Play.{Step, IsPlay, first_steps, own_after, informed_after, plays, play_weight, step_weight, pay, family_pay, always}
+
+-- the list of plays holds just the plays
+abbrev pub PlaysAreListed : Type 0
+PlaysAreListed =
+    (g : Numbers) (n : ℕ) (sigma : OwnPlan n) (tau : InformedPlan n) (play : List Step) →
+    (Contains (plays g n sigma tau) play → IsPlay g n sigma tau play) × (IsPlay g n sigma tau play → Contains (plays g n sigma tau) play)
+
+-- each play stands in the list once: it differs from every later one
+abbrev pub PlaysAreOnce : Type 0
+PlaysAreOnce =
+    (g : Numbers) (n : ℕ) (sigma : OwnPlan n) (tau : InformedPlan n) →
+    AllPairs (λ play later. play ≡ later → ⊥) (plays g n sigma tau)
 
 -- the weights of all plays of n stages sum to the n-th power of the row total times both plans' totals
 abbrev pub WeightsOfPlays : Type 0
@@ -12,7 +24,8 @@ WeightsOfPlays =
     RowsAreFull g → s < g.states → IsOwnPlan g own_total n sigma → IsInformedPlan g informed_total n tau →
     sum_by (play_weight g n s sigma tau) (plays g n sigma tau) ≡ (g.row_total * own_total * informed_total) ^ n
 
--- pay is a sum over the first steps: a step's weight times what it gives at once and what is left pays
+-- Pay is a sum over the first steps: a step's weight, times its reward brought to the scale of the stages that are left and the
+-- discounted pay of what is left.
 abbrev pub PayByFirstSteps : Type 0
 PayByFirstSteps =
     (g : Numbers) (own_total informed_total n s : ℕ) (sigma : OwnPlan (suc n)) (tau : InformedPlan (suc n)) →
@@ -23,16 +36,21 @@ PayByFirstSteps =
     +ℤ pos g.discount_over *ℤ pay g n step.to (own_after n sigma step).1 (informed_after n tau step).1))
     (first_steps g n sigma tau)
 
--- In one stage the vector of the plan that always plays a loses nothing, whatever the informed player does.
--- The vector counts in units of which a reward has e.
+-- always to play one action of the game is a right plan of total 1
+abbrev pub AlwaysIsPlan : Type 0
+AlwaysIsPlan = (g : Numbers) (a n : ℕ) → a < g.own_actions → IsOwnPlan g 1 n (always a n)
+
+-- The vector stands for the plan that always plays a: at each state, whatever the informed player does, its entry is
+-- at most the reward and the discounted average of its entries one stage later. The entries count in units, of which a reward
+-- has e; both sides are multiplied by the row total and the discount's denominator.
 abbrev pub AlwaysStands : Numbers → ℕ → ℕ → (ℕ → ℤ) → Type 0
 AlwaysStands g e a vector =
     (s c : ℕ) → s < g.states → c < g.informed_actions →
     (vector s *ℤ pos (g.row_total * g.discount_under))
     ≤ℤ (pos e *ℤ g.reward s a c *ℤ pos (g.row_total * g.discount_under) +ℤ pos g.discount_over *ℤ over_row g s a c (λ o t. vector t))
 
--- where the vector stands, and no entry is above the span, the plan earns it against each plan of the
--- informed player, less the tail
+-- Where the vector stands, and no entry is above the span, the plan that always plays a earns the entry at the first state against
+-- each plan of the informed player, less the tail: the span discounted once for every stage.
 abbrev pub AlwaysEarns : Type 0
 AlwaysEarns =
     (g : Numbers) (e span a : ℕ) (vector : ℕ → ℤ) →
@@ -41,13 +59,12 @@ AlwaysEarns =
     ((vector s *ℤ pos (g.discount_under ^ n) -ℤ pos (g.discount_over ^ n * span)) *ℤ pos ((g.row_total * informed_total) ^ n))
     ≤ℤ (pos e *ℤ pay g n s (always a n) tau)
 
--- where the vector stands, and no entry is above the span, the plan that always plays a earns the product of the
--- vector with the first belief against each family of plans, less the tail
+-- and it earns the product of the vector with the first belief against each family of plans, less the tail
 abbrev pub AlwaysEarnsFamily : Type 0
 AlwaysEarnsFamily =
-    (g : Numbers) (e span a : ℕ) (vector : ℕ → ℤ) (belief : ℕ → ℕ) →
+    (g : Numbers) (e span a : ℕ) (vector : ℕ → ℤ) (first : ℕ → ℕ) →
     RowsAreFull g → a < g.own_actions → ((s : ℕ) → s < g.states → vector s ≤ℤ pos span) → AlwaysStands g e a vector →
-    (informed_total n : ℕ) (family : ℕ → InformedPlan n) → ((s : ℕ) → s < g.states → IsInformedPlan g informed_total n (family s)) →
-    ((total (λ s. pos (belief s) *ℤ vector s) (below g.states) *ℤ pos (g.discount_under ^ n) -ℤ pos (g.discount_over ^ n * span * sum_by belief (below g.states)))
+    (informed_total n : ℕ) (family : ℕ → InformedPlan n) → IsFamily g informed_total n family →
+    ((product g first vector *ℤ pos (g.discount_under ^ n) -ℤ pos (g.discount_over ^ n * span * sum_by first (below g.states)))
     *ℤ pos ((g.row_total * informed_total) ^ n))
-    ≤ℤ (pos e *ℤ total (λ s. pos (belief s) *ℤ pay g n s (always a n) (family s)) (below g.states))
+    ≤ℤ (pos e *ℤ family_pay g first n (always a n) family)

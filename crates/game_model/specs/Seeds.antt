@@ -1,40 +1,48 @@
--- The seed vectors, and what they promise.
-use Rattle.std.specs.Prelude.{ℕ, zero, suc, ◌*◌, ◌≡◌, ◌<◌, ◌≤◌, ℤ, pos, neg_ℤ, ◌+ℤ◌, ◌*ℤ◌, ◌≤ℤ◌, ◌<ℤ◌, ◌-◌, unsigned_abs}
+-- The seed vectors, and what always playing one action earns.
+use Rattle.std.specs.Prelude.{ℕ, zero, suc, ◌*◌, ◌^◌, ◌≡◌, ◌<◌, ◌≤◌, ℤ, pos, neg_ℤ, ◌+ℤ◌, ◌-ℤ◌, ◌*ℤ◌, ◌≤ℤ◌, ◌<ℤ◌, ◌-◌, unsigned_abs, sum_by}
+use Rattle.scaled_num.specs.Sums.{below}
 use Rattle.game_model.specs.Game.{unit}
-use Rattle.game_model.specs.Numbers.{Numbers, over_row, RowsAreFull}
+use Rattle.game_model.specs.Numbers.{Numbers, over_row, RowsAreFull, product}
+use Rattle.game_model.specs.Plan.{InformedPlan, IsFamily}
+use Rattle.game_model.specs.Play.{family_pay, always}
 use Rattle.game_model.specs.Laws.{AlwaysStands}
 
--- how many rounds there are
+-- how many rounds make a seed vector
 abbrev pub seed_rounds : ℕ
 seed_rounds = 256
 
--- what one stage of always playing a is worth before the division by D * Q
+-- What one stage of always playing a is worth at the state s against the informed action c, where a vector tells what is worth
+-- each next state: the reward in units, and the discounted sum over the row, both times row total and discount's denominator.
 abbrev pub stage_worth : Numbers → ℕ → (ℕ → ℤ) → ℕ → ℕ → ℤ
 stage_worth g a old s c =
     pos unit *ℤ g.reward s a c *ℤ pos (g.row_total * g.discount_under)
     +ℤ pos g.discount_over *ℤ over_row g s a c (λ o t. old t)
 
--- x is the least, over the informed actions, of the quotients rounded down
+-- x is the least, over the informed actions, of a stage's worth divided by row total and discount's denominator and rounded
+-- down: at most each quotient, and less than 1 below some quotient
 pub record IsLeastFloor (g : Numbers) (a : ℕ) (old : ℕ → ℤ) (s : ℕ) (x : ℤ) : Type 0 where
   pub each : (c : ℕ) → c < g.informed_actions → (x *ℤ pos (g.row_total * g.discount_under)) ≤ℤ stage_worth g a old s c
   pub some : (c : ℕ) × (c < g.informed_actions) × ((stage_worth g a old s c) <ℤ ((x +ℤ pos 1) *ℤ pos (g.row_total * g.discount_under)))
 
--- after so many rounds from minus the span, each replacing all entries at once
+-- The vector of the action a after so many rounds. It begins as minus the span everywhere; a round replaces all entries at
+-- once by the least quotients.
 abbrev pub IsSeedAfter : Numbers → ℕ → ℕ → ℕ → (ℕ → ℤ) → Type 0
 IsSeedAfter g span a zero new = (s : ℕ) → s < g.states → new s ≡ neg_ℤ (pos span)
 IsSeedAfter g span a (suc n) new =
     (old : ℕ → ℤ) × IsSeedAfter g span a n old × ((s : ℕ) → s < g.states → IsLeastFloor g a old s (new s))
 
+-- the seed vector of the action a
 abbrev pub IsSeed : Numbers → ℕ → ℕ → (ℕ → ℤ) → Type 0
 IsSeed g span a vector = IsSeedAfter g span a seed_rounds vector
 
--- no reward is greater in magnitude than the span allows
+-- The span is at least what rewards of the greatest magnitude, in units, are worth for ever:
+-- unit * reward / (1 - discount).
 abbrev pub IsSpanOf : Numbers → ℕ → Type 0
 IsSpanOf g span =
     (s a c : ℕ) → s < g.states → a < g.own_actions → c < g.informed_actions →
     unit * unsigned_abs (g.reward s a c) * g.discount_under ≤ span * (g.discount_under - g.discount_over)
 
--- what a game's numbers keep, as far as seeds need it
+-- what seed vectors need of a game's numbers and its span; every accepted game has it
 pub record KeepsSpan (g : Numbers) (span : ℕ) : Type 0 where
   pub full : RowsAreFull g
   pub whole : 1 ≤ g.row_total
@@ -47,3 +55,23 @@ abbrev pub SeedsStand : Type 0
 SeedsStand =
     (g : Numbers) (span a : ℕ) (vector : ℕ → ℤ) → KeepsSpan g span → a < g.own_actions → IsSeed g span a vector →
     AlwaysStands g unit a vector × ((s : ℕ) → s < g.states → ((neg_ℤ (pos span)) ≤ℤ (vector s)) × ((vector s) ≤ℤ (pos span)))
+
+-- The fixed action a earns at least `lower` from the first belief, less the tail. Over any number n of stages, and against any family
+-- of plans of the informed player of any total,
+--
+--     unit * pay >= (lower * Q^n - P^n * span * B) * (D * total)^n
+--
+-- where P / Q is the discount, D the row total and B the sum of the first belief. Divided by unit * B * Q^n * (D * total)^n
+-- this says: the expected discounted payoff is at least lower / (unit * B) - (P / Q)^n * span / unit.
+abbrev pub FixedActionEarns : Numbers → (ℕ → ℕ) → ℕ → ℕ → ℤ → Type 0
+FixedActionEarns g first span a lower =
+    (total n : ℕ) (family : ℕ → InformedPlan n) → IsFamily g total n family →
+    ((lower *ℤ pos (g.discount_under ^ n) -ℤ pos (g.discount_over ^ n * span * sum_by first (below g.states))) *ℤ pos ((g.row_total * total) ^ n))
+    ≤ℤ (pos unit *ℤ family_pay g first n (always a n) family)
+
+-- a fixed action earns the product of the first belief with its seed vector
+abbrev pub SeedsEarn : Type 0
+SeedsEarn =
+    (g : Numbers) (span a : ℕ) (vector : ℕ → ℤ) (first : ℕ → ℕ) (lower : ℤ) →
+    KeepsSpan g span → a < g.own_actions → IsSeed g span a vector → product g first vector ≡ lower →
+    FixedActionEarns g first span a lower

@@ -1,4 +1,11 @@
-ghost use Rattle.game_model.specs.Laws.{AlwaysEarns, AlwaysEarnsFamily, PayByFirstSteps, WeightsOfPlays};
+ghost use Rattle.game_model.specs.Laws.{AlwaysEarns, AlwaysEarnsFamily, AlwaysIsPlan, PayByFirstSteps, PlaysAreListed, PlaysAreOnce, WeightsOfPlays};
+ghost use Rattle.game_model.specs.Seeds.{SeedsEarn, SeedsStand};
+
+/// A law: the list of plays holds just the plays, each once.
+pub fn law_plays()
+    ensures listed { PlaysAreListed }
+    ensures once { PlaysAreOnce }
+{}
 
 /// A law: the weights of all plays sum to a power of the row total times both plans' totals.
 pub fn law_weights()
@@ -10,12 +17,21 @@ pub fn law_pay()
     ensures { PayByFirstSteps }
 {}
 
-/// A law: a plan that always plays one action earns the vector that stands for it, less the tail.
+/// A law: always to play one action is a right plan of total 1, and it earns the vector that stands for it, less
+/// the tail.
 pub fn law_always()
-    ensures { AlwaysEarns }
+    ensures plan { AlwaysIsPlan }
+    ensures earns { AlwaysEarns }
 {}
 
 /// A law: the same for families, one plan of the informed player for each first state.
 pub fn law_families()
     ensures { AlwaysEarnsFamily }
+{}
+
+/// A law: a seed vector stands and lies within the span, and always playing its action earns its product with the
+/// first belief, less the tail.
+pub fn law_seeds()
+    ensures stand { SeedsStand }
+    ensures earn { SeedsEarn }
 {}

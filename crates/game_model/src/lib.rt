@@ -4,5 +4,5 @@
 mod laws;
 mod parts;
 
-pub use laws::{law_always, law_families, law_pay, law_weights};
+pub use laws::{law_always, law_families, law_pay, law_plays, law_seeds, law_weights};
 pub use parts::{Landing, Shape};

@@ -1,0 +1,5 @@
+use Rattle.game_model.proofs.Seeds.{seeds-stand, seeds-earn}
+use Rattle.game_model.proofs.laws.law_seeds.Goals as goal
+
+pub returns : goal.returns
+returns c = record { stand = seeds-stand; earn = seeds-earn }
