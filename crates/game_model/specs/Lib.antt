@@ -5,3 +5,4 @@ pub mod Laws
 pub mod Game
 pub mod Seeds
 pub mod Branches
+pub mod Build

@@ -1,3 +1,33 @@
+/// The most states of a game, and the length of every fixed array over states.
+pub const MOST_STATES: usize = 16;
+
+/// The most actions of either player.
+pub const MOST_ACTIONS: u32 = 6;
+
+/// The most observations of a game.
+pub const MOST_OBSERVATIONS: u32 = 8;
+
+/// The greatest row total.
+pub const MOST_ROW_TOTAL: i128 = 1 << 30;
+
+/// The greatest denominator of a discount.
+pub const MOST_DISCOUNT: i128 = 1 << 20;
+
+/// The greatest total of a belief, and the greatest weight in one.
+pub const MOST_BELIEF: i128 = 1 << 20;
+
+/// The greatest magnitude of a reward.
+pub const MOST_REWARD: i128 = 1 << 30;
+
+/// The most that the row total times the squared denominator times a reward's magnitude may be.
+pub const MOST_WIDTH: i128 = 1 << 72;
+
+/// Units of a vector for one unit of reward.
+pub const UNITS: i128 = 65_536;
+
+/// Rounds from minus the span to a seed vector.
+pub const SEED_ROUNDS: u32 = 256;
+
 /// The sizes of a game, the common total of its rows, and its discount.
 #[derive(Clone, Copy, Debug, PartialEq, Eq)]
 pub struct Shape {
@@ -25,4 +55,13 @@ pub struct Landing {
     pub to: u32,
     /// The weight, 1 to the row total.
     pub weight: i128,
+}
+
+/// A reward, and the row that belongs to it.
+#[derive(Debug, Drop)]
+pub struct Entry {
+    /// The reward of the maximiser.
+    pub reward: i128,
+    /// What may follow, by rising observation and next state.
+    pub row: Vec<Landing>,
 }

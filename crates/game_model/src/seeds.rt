@@ -1,0 +1,95 @@
+ghost use Rattle.game_model.specs.Build.{IsBounded, IsWithinSpan, IsWorthWithin};
+ghost use Rattle.game_model.specs.Game.{numbers, span};
+ghost use Rattle.scaled_num.specs.Sums.{total};
+ghost use Rattle.game_model.specs.Seeds.{IsLeastFloor, IsSeed, IsSeedAfter, stage_worth};
+ghost use Rattle.std.specs.List.{AllByRecursion};
+ghost use Rattle.std.specs.Prelude.{length, neg_ℤ, pos, slice_index_or, sum_by, unsigned_abs, ℕ, ◌*ℤ◌, ◌<◌, ◌^◌, ◌≡◌, ◌≤◌};
+
+use crate::accepted::{Game, law_game};
+use crate::parts::{Landing, MOST_STATES, SEED_ROUNDS, UNITS};
+use scaled_num::floor_div;
+
+impl Game {
+    /// The seed vector of action `a`, one entry in units for each state: what always playing `a` surely earns.
+    /// Each of 256 rounds from minus the span replaces all entries at once by the least, over the informed actions,
+    /// of what one stage and the old entries are worth, rounded down. It takes no memory.
+    pub fn steady(&self, a: u32, out: &mut [i128])
+        requires action { a < self.now.shape.own_actions }
+        requires states { length out.old ≡ self.now.shape.states }
+        ensures { IsSeed (numbers self.now) (span self.now) a (λ s. slice_index_or out.new s (pos 0)) }
+    {
+        out.fill(-self.span());
+        settle(self, a, SEED_ROUNDS, out);
+    }
+}
+
+/// Takes a vector of minus the span so many rounds on.
+fn settle(game: &Game, a: u32, rounds: u32, out: &mut [i128])
+    requires action { a < game.now.shape.own_actions }
+    requires states { length out.old ≡ game.now.shape.states }
+    requires start { AllByRecursion (λ x. x ≡ neg_ℤ (pos (span game.now))) out.old }
+    ensures { IsSeedAfter (numbers game.now) (span game.now) a rounds (λ s. slice_index_or out.new s (pos 0)) }
+{
+    let mut before = [0; MOST_STATES];
+    let before = &mut before[..out.len()];
+    for _ in 0..rounds {
+        before.copy_from_slice(out);
+        round(game, a, before, out);
+    }
+}
+
+/// One round: the new entries from the old ones.
+fn round(game: &Game, a: u32, old: &[i128], new: &mut [i128])
+    requires action { a < game.now.shape.own_actions }
+    requires bounded { IsBounded game.now old.now }
+    requires states { length new.old ≡ game.now.shape.states }
+    ensures floors { (s : ℕ) → s < game.now.shape.states → IsLeastFloor (numbers game.now) a (λ t. slice_index_or old.now t (pos 0)) s (slice_index_or new.new s (pos 0)) }
+    ensures bounded { IsBounded game.now new.new }
+{
+    for (s, entry) in new.iter_mut().enumerate() {
+        *entry = least(game, a, s as u32, old);
+    }
+}
+
+/// The new entry of one state.
+fn least(game: &Game, a: u32, s: u32, old: &[i128]) -> i128
+    requires action { a < game.now.shape.own_actions }
+    requires state { s < game.now.shape.states }
+    requires bounded { IsBounded game.now old.now }
+    ensures floor { IsLeastFloor (numbers game.now) a (λ t. slice_index_or old.now t (pos 0)) s result }
+    ensures bounded { IsWithinSpan game.now result }
+{
+    let mut least = worth(game, s, a, 0, old);
+    for c in 1..game.informed_actions() {
+        least = least.min(worth(game, s, a, c, old));
+    }
+    let (_, under) = game.discount();
+    floor_div(least, game.row_total() * under)
+}
+
+/// What a stage and the old entries are worth at one informed action, before the division.
+fn worth(game: &Game, s: u32, a: u32, c: u32, old: &[i128]) -> i128
+    requires state { s < game.now.shape.states }
+    requires own { a < game.now.shape.own_actions }
+    requires informed { c < game.now.shape.informed_actions }
+    requires bounded { IsBounded game.now old.now }
+    ensures exact { result ≡ stage_worth (numbers game.now) a (λ t. slice_index_or old.now t (pos 0)) s c }
+    ensures bounded { IsWorthWithin game.now result }
+{
+    let (over, under) = game.discount();
+    UNITS * game.reward(s, a, c) * (game.row_total() * under) + over * expected(game.row(s, a, c), old)
+}
+
+/// The sum over a row of its weights times the entries of a vector.
+fn expected(row: &[Landing], vector: &[i128]) -> i128
+    requires inside { AllByRecursion (λ l. l.to < length vector.now) row.now }
+    requires weights { sum_by (λ l. unsigned_abs l.weight) row.now ≤ 2 ^ 30 }
+    requires entries { AllByRecursion (λ x. unsigned_abs x ≤ 2 ^ 70) vector.now }
+    ensures { result ≡ total (λ l. l.weight *ℤ slice_index_or vector.now l.to (pos 0)) row.now }
+{
+    let mut sum: i128 = 0;
+    for landing in row {
+        sum += landing.weight * vector[landing.to as usize];
+    }
+    sum
+}
