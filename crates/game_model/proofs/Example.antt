@@ -1,16 +1,16 @@
--- The definitions compute: a game of two states over two stages, with every play that counts, its weight and its gain. The numbers are a
--- count by hand.
+-- The definitions compute: a game of two states over two stages, with every play that counts, its weight and
+-- its gain. All numbers agree with a count by hand.
 use Rattle.std.proofs.Common.{◌≡◌, ℕ, suc, zero, ◌+◌, ◌*◌, ◌<◌, ◌≤◌, List, [], ◌∷◌, length, refl, cond, ◌==◌, arith}
 use Rattle.std.specs.Prelude.{ℤ, pos, neg_ℤ, ◌*ℤ◌, sum_by, map, filter, slice_index_or, nat_lt}
 use Rattle.std.specs.List.{AllByRecursion}
 use Rattle.scaled_num.specs.Sums.{below}
 use Rattle.game_model.specs.Numbers.{Numbers, RowsAreFull}
 use Rattle.game_model.specs.Plan.{OwnPlan, InformedPlan, IsOwnPlan, IsInformedPlan, branches_total}
-use Rattle.game_model.specs.Play.{Step, plays, play_weight, gain, pay}
+use Rattle.game_model.specs.Play.{Step, plays, play_weight, gain, pay, always}
 use Rattle.game_model.proofs.Steps.{step_of}
 
--- The rewards, and the weights of the rows out of 3, by the state and both actions (s, a, c) in rising order. The weights of a row
--- stand by the observation and the next state (o, t): (0, 0), (0, 1), (1, 0), (1, 1).
+-- The rewards, and the weights of the rows out of 3, by the state and both actions (s, a, c) in rising order.
+-- The weights of a row stand by the observation and the next state (o, t): (0, 0), (0, 1), (1, 0), (1, 1).
 abbrev rewards : List ℤ
 rewards = pos 5 ∷ neg_ℤ (pos 1) ∷ pos 0 ∷ pos 2 ∷ neg_ℤ (pos 4) ∷ pos 1 ∷ pos 3 ∷ neg_ℤ (pos 2) ∷ []
 
@@ -44,9 +44,9 @@ game = record {
 abbrev own_stage : ℕ → ℕ → OwnPlan 1
 own_stage first second = λ a o. (cond (a == 0) first second, tt) ∷ []
 
--- Player one's plan, of total 3. Its first action is 0 with weight 2 and 1 with weight 1. After action 0 and observation 0 a
--- coin decides between going on by action 0 alone and by both actions with the weights 1 and 2; after observation 1 it goes
--- on by both. After action 1 it goes on by action 0 alone.
+-- Player one's plan, of total 3. Its first action is 0 with weight 2 and 1 with weight 1. After action 0 and
+-- observation 0 a coin decides between going on by action 0 alone and by both actions with the weights 1 and
+-- 2; after observation 1 it goes on by both. After action 1 it goes on by action 0 alone.
 abbrev own : OwnPlan 2
 own = λ a o.
     cond (a == 0)
@@ -57,8 +57,9 @@ own = λ a o.
 abbrev informed_stage : ℕ → ℕ → InformedPlan 1
 informed_stage first second = λ c a o t. (cond (c == 0) first second, tt) ∷ []
 
--- The informed player's plan, of total 3. Its first action is 0 with weight 2 and 1 with weight 1. After action 0 it goes on by
--- action 0 in the state 0; in the state 1 a coin decides between the two actions. After action 1 it goes on by action 1.
+-- The informed player's plan, of total 3. Its first action is 0 with weight 2 and 1 with weight 1. After
+-- action 0 it goes on by action 0 in the state 0; in the state 1 a coin decides between the two actions.
+-- After action 1 it goes on by action 1.
 abbrev informed : InformedPlan 2
 informed = λ c a o t.
     cond (c == 0)
@@ -72,9 +73,10 @@ counted s =
     (map (λ play. (play, play_weight game 2 s own informed play, gain game s play, pos (play_weight game 2 s own informed play) *ℤ gain game s play))
     (plays game 2 own informed))
 
--- There are 400 plays. All but those below have weight 0: the row or a branch has none. A step is written as own action, informed
--- action, observation, next state, and the places of both branches. The first play from the state 0 has the weight
--- (1 * 1 * 2) * (1 * 3 * 3) = 18, by row, own branch and informed branch of each step, and the gain 5 * 3 * 3 + 2 * (5 * 3) = 75.
+-- There are 400 plays. All but those below have weight 0: the row or a branch has none. A step is written as
+-- own action, informed action, observation, next state, and the places of both branches. The first play from
+-- the state 0 has the weight (1 * 1 * 2) * (1 * 3 * 3) = 18, by row, own branch and informed branch of each
+-- step, and the gain 5 * 3 * 3 + 2 * (5 * 3) = 75.
 count : length (plays game 2 own informed) ≡ 400
 count = refl
 
@@ -130,6 +132,10 @@ pay_0 = refl
 
 pay_1 : pay game 2 1 own informed ≡ neg_ℤ (pos 9558)
 pay_1 = refl
+
+-- Against the same plan, always to play action 0 pays 6 * 75 + 12 * 75 + 18 * 21 + 18 * 51 - 27 * 3 from the state 0.
+always_pay_0 : pay game 2 0 (always 0 2) informed ≡ pos 2565
+always_pay_0 = refl
 
 -- a property of both numbers below 2
 both : (P : ℕ → Type 0) → P 0 → P 1 → (i : ℕ) → i < 2 → P i

@@ -91,7 +91,8 @@ apart-append (x ∷ xs) ys h k other = (
   apart-append xs ys h.1 k (λ z at past. other z (Contains-append_right (x ∷ []) xs z at) past),
 )
 
--- where each element of a list tells by its key which part of a joined list it comes from, the key of what is contained is contained
+-- where each element of a list tells by its key which part of a joined list it comes from, the key of what is
+-- contained is contained
 key-contained : {X Y : Type 0} (key : Y → X) (f : X → List Y) → ((x : X) → AllByRecursion (λ y. key y ≡ x) (f x)) →
     (xs : List X) (y : Y) → Contains (flat_map f xs) y → Contains xs (key y)
 key-contained key f h [] y at = absurd (omega (arith, at.1))

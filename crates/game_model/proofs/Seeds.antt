@@ -9,7 +9,7 @@ use Rattle.scaled_num.proofs.Sums.{total-below-le}
 use Rattle.game_model.specs.Game.{unit}
 use Rattle.game_model.specs.Numbers.{Numbers, over_row, RowsAreFull}
 use Rattle.game_model.specs.Laws.{AlwaysStands}
-use Rattle.game_model.specs.Seeds.{stage_worth, IsLeastFloor, IsSeedAfter, KeepsSpan, SeedsStand, SeedsEarn}
+use Rattle.game_model.specs.Seeds.{stage_worth, IsLeastFloor, IsSeedAfter, KeepsSpan, SeedsAreOne, SeedsStand, SeedsEarn}
 use Rattle.game_model.specs.Play.{family_pay, always}
 use Rattle.game_model.proofs.Steps.{total-row}
 use Rattle.game_model.proofs.Family.{always-earns_family}
@@ -171,7 +171,31 @@ seeds-stand g span a vector keeps la seed =
 pub seeds-earn : SeedsEarn
 seeds-earn g span a vector first lower keeps la seed is =
     let stand = seeds-stand g span a vector keeps la seed in
-    λ whole n family right.
+    λ n whole family right.
     subst (λ (z : ℤ). ((z *ℤ pos (g.discount_under ^ n) -ℤ pos (g.discount_over ^ n * span * sum_by first (below g.states))) *ℤ pos ((g.row_total * whole) ^ n))
     ≤ℤ (pos unit *ℤ family_pay g first n (always a n) family)) is
     (always-earns_family g unit span a vector first keeps.full la (λ s ls. (stand.1 s ls).1) stand.0 whole n family right)
+
+-- where one vector is at most another, so are the next ones
+floors-le : (g : Numbers) (a s : ℕ) (old other : ℕ → ℤ) (x y : ℤ) → ((t : ℕ) → t < g.states → old t ≤ℤ other t) →
+    IsLeastFloor g a old s x → IsLeastFloor g a other s y → x ≤ℤ y
+floors-le g a s old other x y h low high =
+    let c = high.some.0 in
+    floor-le (g.row_total * g.discount_under) x y (stage_worth g a old s c) (stage_worth g a other s c)
+    (low.each c high.some.1) (worth-le g a s c old other h) high.some.2
+
+seed-le : (g : Numbers) (span a n : ℕ) (vector other : ℕ → ℤ) → IsSeedAfter g span a n vector → IsSeedAfter g span a n other →
+    (s : ℕ) → s < g.states → vector s ≤ℤ other s
+seed-le g span a zero vector other start begin s ls = same _ _ (start s ls ∙ sym (begin s ls))
+  where
+    same : (x y : ℤ) → x ≡ y → x ≤ℤ y
+    same x y e = omega (arith, ints)
+seed-le g span a (suc n) vector other (old, seed, last) (before, grown, next) s ls =
+    floors-le g a s old before (vector s) (other s) (seed-le g span a n old before seed grown) (last s ls) (next s ls)
+
+pub seeds-are_one : SeedsAreOne
+seeds-are_one g span a vector other seed grown s ls =
+    both (vector s) (other s) (seed-le g span a 256 vector other seed grown s ls) (seed-le g span a 256 other vector grown seed s ls)
+  where
+    both : (x y : ℤ) → x ≤ℤ y → y ≤ℤ x → x ≡ y
+    both x y h k = omega (arith, ints)

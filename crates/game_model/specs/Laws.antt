@@ -24,8 +24,8 @@ WeightsOfPlays =
     RowsAreFull g → s < g.states → IsOwnPlan g own_total n sigma → IsInformedPlan g informed_total n tau →
     sum_by (play_weight g n s sigma tau) (plays g n sigma tau) ≡ (g.row_total * own_total * informed_total) ^ n
 
--- Pay is a sum over the first steps: a step's weight, times its reward brought to the scale of the stages that are left and the
--- discounted pay of what is left.
+-- Pay is a sum over the first steps: a step's weight, times its reward brought to the scale of the stages
+-- that are left and the discounted pay of what is left.
 abbrev pub PayByFirstSteps : Type 0
 PayByFirstSteps =
     (g : Numbers) (own_total informed_total n s : ℕ) (sigma : OwnPlan (suc n)) (tau : InformedPlan (suc n)) →
@@ -40,17 +40,18 @@ PayByFirstSteps =
 abbrev pub AlwaysIsPlan : Type 0
 AlwaysIsPlan = (g : Numbers) (a n : ℕ) → a < g.own_actions → IsOwnPlan g 1 n (always a n)
 
--- The vector stands for the plan that always plays a: at each state, whatever the informed player does, its entry is
--- at most the reward and the discounted average of its entries one stage later. The entries count in units, of which a reward
--- has e; both sides are multiplied by the row total and the discount's denominator.
+-- The vector stands for the plan that always plays a: at each state, whatever the informed player does, its
+-- entry is at most the reward and the discounted average of its entries one stage later. The entries count in
+-- units, of which a reward has e; both sides are multiplied by the row total and the discount's denominator.
 abbrev pub AlwaysStands : Numbers → ℕ → ℕ → (ℕ → ℤ) → Type 0
 AlwaysStands g e a vector =
     (s c : ℕ) → s < g.states → c < g.informed_actions →
     (vector s *ℤ pos (g.row_total * g.discount_under))
     ≤ℤ (pos e *ℤ g.reward s a c *ℤ pos (g.row_total * g.discount_under) +ℤ pos g.discount_over *ℤ over_row g s a c (λ o t. vector t))
 
--- Where the vector stands, and no entry is above the span, the plan that always plays a earns the entry at the first state against
--- each plan of the informed player, less the tail: the span discounted once for every stage.
+-- Where the vector stands, and no entry is above the span, the plan that always plays a earns the entry at
+-- the first state against each plan of the informed player, less the tail: the span discounted once for every
+-- stage.
 abbrev pub AlwaysEarns : Type 0
 AlwaysEarns =
     (g : Numbers) (e span a : ℕ) (vector : ℕ → ℤ) →

@@ -1,14 +1,14 @@
 -- A game as numbers: what plans, plays and pay are counted with.
 --
--- Two players move at once. Player one has the own actions and sees only the observations. The informed player
--- sees the state and everything else, and pays player one the reward. A stage goes from the state s, by the own action a and the
--- informed action c, to an observation o and a next state t.
+-- Two players move at once. Player one has the own actions and sees only the observations. The informed
+-- player sees the state and everything else, and pays player one the reward. A stage goes from the state s,
+-- by the own action a and the informed action c, to an observation o and a next state t.
 use Rattle.std.specs.Prelude.{ℕ, ◌≡◌, ◌<◌, ℤ, pos, ◌*ℤ◌, sum_by}
 use Rattle.scaled_num.specs.Sums.{below, total}
 
 -- States, actions and observations are the numbers below these counts. The discount is the fraction
--- `discount_over / discount_under`. `reward s a c` is what player one is paid at once. `weight s a c o t` out of
--- `row_total` is the probability of the observation o and the next state t.
+-- `discount_over / discount_under`. `reward s a c` is what player one is paid at once. `weight s a c o t` out
+-- of `row_total` is the probability of the observation o and the next state t.
 pub record Numbers : Type 0 where
   pub states : ℕ
   pub own_actions : ℕ

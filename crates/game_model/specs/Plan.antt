@@ -1,7 +1,7 @@
 -- Plans of both players: finite trees whose branches have whole weights.
 --
--- A plan says what a player does over a fixed number of stages, on each thing that it may see, and by which coins.
--- A branch's weight over the plan's total is the probability of the action together with the coin.
+-- A plan says what a player does over a fixed number of stages, on each thing that it may see, and by which
+-- coins. A branch's weight over the plan's total is the probability of the action together with the coin.
 use Rattle.std.specs.Prelude.{ℕ, zero, suc, ◌≡◌, ◌<◌, ◌≤◌, List, sum_by}
 use Rattle.std.specs.List.{AllByRecursion}
 use Rattle.scaled_num.specs.Sums.{below}
@@ -13,8 +13,8 @@ abbrev pub OwnPlan : ℕ → Type 0
 OwnPlan zero = Unit {0}
 OwnPlan (suc n) = ℕ → ℕ → List (ℕ × OwnPlan n)
 
--- A plan of the informed player over n stages, from a first state that it knows. Over no stage it stops. Over more it has, for
--- each informed action, own action, observation and next state, a list of branches.
+-- A plan of the informed player over n stages, from a first state that it knows. Over no stage it stops. Over
+-- more it has, for each informed action, own action, observation and next state, a list of branches.
 abbrev pub InformedPlan : ℕ → Type 0
 InformedPlan zero = Unit {0}
 InformedPlan (suc n) = ℕ → ℕ → ℕ → ℕ → List (ℕ × InformedPlan n)
@@ -23,9 +23,9 @@ InformedPlan (suc n) = ℕ → ℕ → ℕ → ℕ → List (ℕ × InformedPlan
 abbrev pub branches_total : {X : Type 0} → List (ℕ × X) → ℕ
 branches_total branches = sum_by (λ branch. branch.0) branches
 
--- A stage of player one's plan is right for a total of at least 1 where each own action has a part: the weights
--- after the action sum to its part whatever is observed, the parts sum to the total, and each branch leads to a
--- right plan. So the choice of the action does not look ahead at the observation.
+-- A stage of player one's plan is right for a total of at least 1 where each own action has a part: the
+-- weights after the action sum to its part whatever is observed, the parts sum to the total, and each branch
+-- leads to a right plan. So the choice of the action does not look ahead at the observation.
 pub record IsOwnStage (g : Numbers) (whole : ℕ) (Rest : Type 0) (IsRight : Rest → Type 0) (stage : ℕ → ℕ → List (ℕ × Rest)) : Type 0 where
   pub some : 1 ≤ whole
   pub part : ℕ → ℕ
@@ -38,9 +38,9 @@ abbrev pub IsOwnPlan : Numbers → ℕ → (n : ℕ) → OwnPlan n → Type 0
 IsOwnPlan g whole zero plan = Unit {0}
 IsOwnPlan g whole (suc n) plan = IsOwnStage g whole (OwnPlan n) (IsOwnPlan g whole n) plan
 
--- A stage of the informed player's plan is right for a total of at least 1 where each informed action has a part:
--- the weights after the action sum to its part whatever player one does and wherever the stage leads, the parts
--- sum to the total, and each branch leads to a right plan.
+-- A stage of the informed player's plan is right for a total of at least 1 where each informed action has a
+-- part: the weights after the action sum to its part whatever player one does and wherever the stage leads,
+-- the parts sum to the total, and each branch leads to a right plan.
 pub record IsInformedStage (g : Numbers) (whole : ℕ) (Rest : Type 0) (IsRight : Rest → Type 0) (stage : ℕ → ℕ → ℕ → ℕ → List (ℕ × Rest)) : Type 0 where
   pub some : 1 ≤ whole
   pub part : ℕ → ℕ

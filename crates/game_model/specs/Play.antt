@@ -1,14 +1,15 @@
 -- Plays of two plans, their weights and gains, and what the two plans pay.
 --
--- All plays of two plans are listed, also those of weight 0, and whole numbers are summed over the list. The expected discounted
--- payoff of plans with the totals N and M over n stages is `pay` over (row_total * N * M)^n * discount_under^n.
+-- All plays of two plans are listed, also those of weight 0, and whole numbers are summed over the list. The
+-- expected discounted payoff over n stages of plans with the totals N and M is `pay` over
+-- (row_total * N * M)^n * discount_under^n.
 use Rattle.std.specs.Prelude.{ℕ, zero, suc, ◌*◌, ◌^◌, ◌<◌, ℤ, pos, ◌+ℤ◌, ◌*ℤ◌, List, [], ◌∷◌, map, flat_map, cond, ◌==◌, length, slice_index_or}
 use Rattle.scaled_num.specs.Sums.{below, total}
 use Rattle.game_model.specs.Numbers.{Numbers, product}
 use Rattle.game_model.specs.Plan.{OwnPlan, InformedPlan}
 
--- One step of a play: both actions, the observation, the next state, and the place, in each player's list of branches, of
--- the branch that its plan goes on by.
+-- One step of a play: both actions, the observation, the next state, and the place, in each player's list of
+-- branches, of the branch that its plan goes on by.
 pub record Step : Type 0 where
   pub own : ℕ
   pub informed : ℕ
@@ -51,7 +52,7 @@ IsPlay g (suc n) sigma tau (step ∷ rest) =
     × (step.own_place < length (sigma step.own step.seen)) × (step.informed_place < length (tau step.informed step.own step.seen step.to))
     × IsPlay g n (own_after n sigma step).1 (informed_after n tau step).1 rest
 
--- every first step: each pair of actions, each observation and next state, each place of a branch of either plan
+-- every first step: each pair of actions, observation, next state, and place of a branch of either plan
 abbrev pub first_steps : Numbers → (n : ℕ) → OwnPlan (suc n) → InformedPlan (suc n) → List Step
 first_steps g n sigma tau =
     flat_map (λ a.
@@ -74,7 +75,7 @@ plays g (suc n) sigma tau =
     flat_map (λ step. map (λ rest. step ∷ rest) (plays g n (own_after n sigma step).1 (informed_after n tau step).1))
     (first_steps g n sigma tau)
 
--- the weight of a first step from the state s: that of the observation and next state times those of both branches
+-- the weight of a first step from the state s: that of where it leads, times those of both branches
 abbrev pub step_weight : Numbers → (n : ℕ) → ℕ → OwnPlan (suc n) → InformedPlan (suc n) → Step → ℕ
 step_weight g n s sigma tau step =
     g.weight s step.own step.informed step.seen step.to * (own_after n sigma step).0 * (informed_after n tau step).0
@@ -87,8 +88,8 @@ play_weight g (suc n) s sigma tau (step ∷ rest) =
     step_weight g n s sigma tau step
     * play_weight g n step.to (own_after n sigma step).1 (informed_after n tau step).1 rest
 
--- The gain of a play from the state s: the sum of its rewards, each discounted once for every stage before it, times
--- discount_under to the number of stages.
+-- The gain of a play from the state s: the sum of its rewards, each discounted once for every stage before
+-- it, times discount_under to the number of stages.
 abbrev pub gain : Numbers → ℕ → List Step → ℤ
 gain g s [] = pos 0
 gain g s (step ∷ rest) =

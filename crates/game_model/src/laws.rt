@@ -1,5 +1,5 @@
 ghost use Rattle.game_model.specs.Laws.{AlwaysEarns, AlwaysEarnsFamily, AlwaysIsPlan, PayByFirstSteps, PlaysAreListed, PlaysAreOnce, WeightsOfPlays};
-ghost use Rattle.game_model.specs.Seeds.{SeedsEarn, SeedsStand};
+ghost use Rattle.game_model.specs.Seeds.{SeedsAreOne, SeedsEarn, SeedsStand};
 
 /// A law: the list of plays holds just the plays, each once.
 pub fn law_plays()
@@ -29,9 +29,10 @@ pub fn law_families()
     ensures { AlwaysEarnsFamily }
 {}
 
-/// A law: a seed vector stands and lies within the span, and always playing its action earns its product with the
-/// first belief, less the tail.
+/// A law: an action has one seed vector, which stands and lies within the span; and always to play the action earns
+/// the vector's product with the first belief, less the tail.
 pub fn law_seeds()
+    ensures one { SeedsAreOne }
     ensures stand { SeedsStand }
     ensures earn { SeedsEarn }
 {}

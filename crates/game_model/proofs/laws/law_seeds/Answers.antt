@@ -1,5 +1,5 @@
-use Rattle.game_model.proofs.Seeds.{seeds-stand, seeds-earn}
+use Rattle.game_model.proofs.Seeds.{seeds-are_one, seeds-stand, seeds-earn}
 use Rattle.game_model.proofs.laws.law_seeds.Goals as goal
 
 pub returns : goal.returns
-returns c = record { stand = seeds-stand; earn = seeds-earn }
+returns c = record { one = seeds-are_one; stand = seeds-stand; earn = seeds-earn }
