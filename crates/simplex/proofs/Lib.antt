@@ -1,0 +1,15 @@
+pub mod Combine
+pub mod Unique
+pub mod Narrow
+pub mod Divisor
+pub mod Trade
+pub mod Choice
+pub mod Wide
+pub mod Rows
+pub mod Next
+pub mod Run
+pub mod Start
+pub mod Optimum
+pub mod Feasible
+pub mod OneRun
+pub mod Literal
