@@ -3,28 +3,28 @@ use Rattle.std.proofs.Common.{IsTrue, nat_lt, int_lt, ◌↔◌, ℕ, zero, suc,
 use Rattle.std.proofs.lemmas.Int.{ints, by_lt_z}
 use Rattle.std.proofs.lemmas.Bool.{cases_lt, cases_eq}
 use borrow.Author.Differences.{up, down}
-use Rattle.simplex.specs.Dictionary.{Dictionary, entry, IsImproving, Enters, IsBounding, ratio, Leaves}
+use Rattle.simplex.specs.CostForm.{CostForm, entry, IsImproving, Enters, IsBounding, ratio, Leaves}
 use Rattle.simplex.specs.Tableau.{IsTighter, EntersSoFar, LeavesSoFar}
 use Rattle.scaled_num.proofs.Ring.{ring, x, ◌⊕◌, ◌⊖◌, ◌⊗◌}
 use Rattle.simplex.proofs.Combine.{cancel}
 
-pub enters_none : (d : Dictionary) → EntersSoFar d 0 None
+pub enters_none : (d : CostForm) → EntersSoFar d 0 None
 enters_none d = λ t lt i. absurd (omega arith)
 
-pub enters_skip : (d : Dictionary) (n : ℕ) (best : Option ℕ) → EntersSoFar d n best → (IsImproving d n → ⊥) → EntersSoFar d (n + 1) best
+pub enters_skip : (d : CostForm) (n : ℕ) (best : Option ℕ) → EntersSoFar d n best → (IsImproving d n → ⊥) → EntersSoFar d (n + 1) best
 enters_skip d n None h never = λ t lt i. elim (cases_eq t n) [ inl e ↦ never (subst (IsImproving d) e i) | inr ne ↦ h t (omega arith) i ]
 enters_skip d n (Some q) h never = (omega (arith, h.0), h.1, λ t lt i. elim (cases_eq t n) [ inl e ↦ absurd (never (subst (IsImproving d) e i)) | inr ne ↦ h.2 t (omega arith) i ])
 
-pub enters_keep : (d : Dictionary) (n q : ℕ) → EntersSoFar d n (Some q) → slice_index d.out q ≤ slice_index d.out n → EntersSoFar d (n + 1) (Some q)
+pub enters_keep : (d : CostForm) (n q : ℕ) → EntersSoFar d n (Some q) → slice_index d.out q ≤ slice_index d.out n → EntersSoFar d (n + 1) (Some q)
 enters_keep d n q h le = (omega (arith, h.0), h.1, λ t lt i. elim (cases_eq t n) [ inl e ↦ subst (λ (s : ℕ). slice_index d.out q ≤ slice_index d.out s) (sym e) le | inr ne ↦ h.2 t (omega arith) i ])
 
-pub enters_first : (d : Dictionary) (n : ℕ) → EntersSoFar d n None → IsImproving d n → EntersSoFar d (n + 1) (Some n)
+pub enters_first : (d : CostForm) (n : ℕ) → EntersSoFar d n None → IsImproving d n → EntersSoFar d (n + 1) (Some n)
 enters_first d n h i = (omega arith, i, λ t lt j. elim (cases_eq t n) [ inl e ↦ subst (λ (s : ℕ). slice_index d.out n ≤ slice_index d.out s) (sym e) (omega arith) | inr ne ↦ absurd (h t (omega arith) j) ])
 
-pub enters_take : (d : Dictionary) (n q : ℕ) → EntersSoFar d n (Some q) → slice_index d.out n < slice_index d.out q → IsImproving d n → EntersSoFar d (n + 1) (Some n)
+pub enters_take : (d : CostForm) (n q : ℕ) → EntersSoFar d n (Some q) → slice_index d.out n < slice_index d.out q → IsImproving d n → EntersSoFar d (n + 1) (Some n)
 enters_take d n q h lt i = (omega arith, i, λ t tl j. elim (cases_eq t n) [ inl e ↦ subst (λ (s : ℕ). slice_index d.out n ≤ slice_index d.out s) (sym e) (omega arith) | inr ne ↦ (let k = h.2 t (omega arith) j in omega arith) ])
 
-pub enters_all : (d : Dictionary) (q : ℕ) → EntersSoFar d (length d.out) (Some q) → Enters d q
+pub enters_all : (d : CostForm) (q : ℕ) → EntersSoFar d (length d.out) (Some q) → Enters d q
 enters_all d q h = record { improving = h.1; least = λ t i. h.2 t i.0 i }
 
 -- ---- ratios
@@ -71,7 +71,7 @@ chain_eq cs cn ck us un uk pn h i =
     (ring (cs ∷ un ∷ uk ∷ []) (x 1 ⊗ (x 0 ⊗ x 2)) ((x 0 ⊗ x 1) ⊗ x 2) (omega arith) ∙ ap (λ (y : ℤ). y *ℤ uk) h
     ∙ swap_last cn us uk ∙ ap (λ (y : ℤ). y *ℤ us) i ∙ ring (ck ∷ un ∷ us ∷ []) ((x 0 ⊗ x 1) ⊗ x 2) (x 1 ⊗ (x 0 ⊗ x 2)) (omega arith))
 
-pub tighter_trans : (d : Dictionary) (q s n k : ℕ) → IsBounding d q s → IsBounding d q n → IsBounding d q k → IsTighter d q s n → IsTighter d q n k → IsTighter d q s k
+pub tighter_trans : (d : CostForm) (q s n k : ℕ) → IsBounding d q s → IsBounding d q n → IsBounding d q k → IsTighter d q s n → IsTighter d q n k → IsTighter d q s k
 tighter_trans d q s n k bs bn bk h i =
     let cs : ℤ = entry d s 1 in let cn : ℤ = entry d n 1 in let ck : ℤ = entry d k 1 in
     let us : ℤ = entry d s (q + 2) in let un : ℤ = entry d n (q + 2) in let uk : ℤ = entry d k (q + 2) in
@@ -86,20 +86,20 @@ tighter_trans d q s n k bs bn bk h i =
       ]
     ]
 
-not_tighter : (d : Dictionary) (q n : ℕ) → IsTighter d q n n → ⊥
+not_tighter : (d : CostForm) (q n : ℕ) → IsTighter d q n n → ⊥
 not_tighter d q n h = elim h [ inl u ↦ omega (arith, ints) | inr u ↦ omega (arith, u.1) ]
 
-pub leaves_skip : (d : Dictionary) (q n : ℕ) (best : Option ℕ) → LeavesSoFar d q n best → (IsBounding d q n → ⊥) → LeavesSoFar d q (n + 1) best
+pub leaves_skip : (d : CostForm) (q n : ℕ) (best : Option ℕ) → LeavesSoFar d q n best → (IsBounding d q n → ⊥) → LeavesSoFar d q (n + 1) best
 leaves_skip d q n None h never = λ t lt i. elim (cases_eq t n) [ inl e ↦ never (subst (IsBounding d q) e i) | inr ne ↦ h t (omega arith) i ]
 leaves_skip d q n (Some k) h never = (omega (arith, h.0), h.1, λ t lt i tight. elim (cases_eq t n) [ inl e ↦ never (subst (IsBounding d q) e i) | inr ne ↦ h.2 t (omega arith) i tight ])
 
-pub leaves_first : (d : Dictionary) (q n : ℕ) → LeavesSoFar d q n None → IsBounding d q n → LeavesSoFar d q (n + 1) (Some n)
+pub leaves_first : (d : CostForm) (q n : ℕ) → LeavesSoFar d q n None → IsBounding d q n → LeavesSoFar d q (n + 1) (Some n)
 leaves_first d q n h i = (omega arith, i, λ t lt j tight. elim (cases_eq t n) [ inl e ↦ not_tighter d q n (subst (λ (s : ℕ). IsTighter d q s n) e tight) | inr ne ↦ h t (omega arith) j ])
 
-pub leaves_keep : (d : Dictionary) (q n k : ℕ) → LeavesSoFar d q n (Some k) → (IsTighter d q n k → ⊥) → LeavesSoFar d q (n + 1) (Some k)
+pub leaves_keep : (d : CostForm) (q n k : ℕ) → LeavesSoFar d q n (Some k) → (IsTighter d q n k → ⊥) → LeavesSoFar d q (n + 1) (Some k)
 leaves_keep d q n k h never = (omega (arith, h.0), h.1, λ t lt i tight. elim (cases_eq t n) [ inl e ↦ never (subst (λ (s : ℕ). IsTighter d q s k) e tight) | inr ne ↦ h.2 t (omega arith) i tight ])
 
-pub leaves_take : (d : Dictionary) (q n k : ℕ) → LeavesSoFar d q n (Some k) → IsBounding d q n → IsTighter d q n k → LeavesSoFar d q (n + 1) (Some n)
+pub leaves_take : (d : CostForm) (q n k : ℕ) → LeavesSoFar d q n (Some k) → IsBounding d q n → IsTighter d q n k → LeavesSoFar d q (n + 1) (Some n)
 leaves_take d q n k h i better = (
   omega arith,
   i,
@@ -109,20 +109,20 @@ leaves_take d q n k h i better = (
   ],
 )
 
-pub leaves_all : (d : Dictionary) (q k : ℕ) → LeavesSoFar d q (length d.basic) (Some k) → Leaves d q k
+pub leaves_all : (d : CostForm) (q k : ℕ) → LeavesSoFar d q (length d.basic) (Some k) → Leaves d q k
 leaves_all d q k h = record {
   bounding = h.1;
   least = λ s b. by_lt_z (ratio d q s k) (ratio d q k s) (λ lt. absurd (h.2 s b.0 b (inl lt))) (λ le. le);
   first = λ s b e. elim (cases_lt (slice_index d.basic s) (slice_index d.basic k)) [ inl lt ↦ absurd (h.2 s b.0 b (inr (sym e, lt))) | inr ge ↦ ge ];
 }
 
-pub tighter_tie : (d : Dictionary) (q k s a b : ℕ) → ratio d q k s ≡ ratio d q s k → a ≡ slice_index d.basic k → b ≡ slice_index d.basic s → IsTrue (nat_lt a b) ↔ IsTighter d q k s
+pub tighter_tie : (d : CostForm) (q k s a b : ℕ) → ratio d q k s ≡ ratio d q s k → a ≡ slice_index d.basic k → b ≡ slice_index d.basic s → IsTrue (nat_lt a b) ↔ IsTighter d q k s
 tighter_tie d q k s a b e ka kb = (
   λ t. inr (e, (let i : a < b = grind (arith, t) in omega arith)),
   λ h. elim h [ inl u ↦ absurd (omega (arith, ints)) | inr u ↦ (let i : a < b = omega (arith, u.1) in grind arith) ],
 )
 
-pub tighter_apart : (d : Dictionary) (q k s : ℕ) (a b : ℤ) → a ≡ ratio d q k s → b ≡ ratio d q s k → (a ≡ b → ⊥) → IsTrue (int_lt a b) ↔ IsTighter d q k s
+pub tighter_apart : (d : CostForm) (q k s : ℕ) (a b : ℤ) → a ≡ ratio d q k s → b ≡ ratio d q s k → (a ≡ b → ⊥) → IsTrue (int_lt a b) ↔ IsTighter d q k s
 tighter_apart d q k s a b ka kb ne = (
   λ t. inl (let i : a <ℤ b = grind (arith, ints, t) in omega (arith, ints)),
   λ h. elim h [ inl u ↦ (let i : a <ℤ b = omega (arith, ints) in grind (arith, ints)) | inr u ↦ absurd (ne (ka ∙ u.0 ∙ sym kb)) ],

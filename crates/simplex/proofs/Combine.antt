@@ -5,7 +5,7 @@ use Rattle.std.proofs.lemmas.Bool.{cases_lt}
 use borrow.Author.Differences.{up, down, product_is, same_in, same_out}
 use Rattle.simplex.specs.declared.Program.{Program}
 use Rattle.simplex.specs.Program.{sum_to, at, row_count, variable_count, cell, limit, gain}
-use Rattle.simplex.specs.Dictionary.{Belongs}
+use Rattle.simplex.specs.CostForm.{Belongs}
 use Rattle.scaled_num.proofs.Ring.{ring, x, ◌⊕◌, ◌⊖◌, ◌⊗◌}
 
 -- a * e - b * d

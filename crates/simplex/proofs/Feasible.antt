@@ -5,8 +5,8 @@ use Rattle.std.proofs.lemmas.Bool.{cases_lt}
 use Rattle.std.proofs.lemmas.List.{get_or_past}
 use Rattle.simplex.specs.declared.Program.{Program}
 use Rattle.simplex.specs.Program.{at, row_count, variable_count, limit, IsProgram}
-use Rattle.simplex.specs.Dictionary.{Dictionary, row_of, entry, Leaves, IsBounding, ratio}
-use Rattle.simplex.specs.Optimum.{IsFeasible}
+use Rattle.simplex.specs.CostForm.{CostForm, row_of, entry, Leaves, IsBounding, ratio}
+use Rattle.simplex.specs.CostOptimum.{IsFeasible}
 use Rattle.simplex.specs.Start.{IsFilledFor}
 use Rattle.simplex.specs.Tableau.{IsNext}
 use Rattle.scaled_num.proofs.Ring.{ring, x, ◌⊕◌, ◌⊖◌, ◌⊗◌}
@@ -24,7 +24,7 @@ above a b h = omega (arith, ints)
 above_nothing : (a b : ℤ) → pos 0 ≤ℤ a → b ≤ℤ pos 0 → b ≤ℤ a
 above_nothing a b h k = omega (arith, ints)
 
-pub next_feasible : (d : Dictionary) (r q k : ℕ) (new : List ℤ) → IsFeasible d → Leaves d q r → k < length d.basic → IsNext d r q k new → pos 0 ≤ℤ at new 1
+pub next_feasible : (d : CostForm) (r q k : ℕ) (new : List ℤ) → IsFeasible d → Leaves d q r → k < length d.basic → IsNext d r q k new → pos 0 ≤ℤ at new 1
 next_feasible d r q k new f leaves kl next =
     let c : ℤ = entry d r (q + 2) in
     let a : ℤ = entry d k (q + 2) in
@@ -48,8 +48,8 @@ next_feasible d r q k new f leaves kl next =
     long_enough : (row : List ℤ) (z : ℤ) (q : ℕ) → z ≢ pos 0 → z ≡ at row (q + 2) → 1 < length row
     long_enough row z q ne e = elim (cases_lt 1 (length row)) [ inl lt ↦ lt | inr ge ↦ absurd (ne (e ∙ get_or_past row (q + 2) (pos 0) (omega arith))) ]
 
-pub next_all_feasible : (d new : Dictionary) (r q : ℕ) → IsFeasible d → Leaves d q r → length new.basic ≡ length d.basic → ((k : ℕ) → k ≤ length d.basic → IsNext d r q k (row_of new k)) → IsFeasible new
+pub next_all_feasible : (d new : CostForm) (r q : ℕ) → IsFeasible d → Leaves d q r → length new.basic ≡ length d.basic → ((k : ℕ) → k ≤ length d.basic → IsNext d r q k (row_of new k)) → IsFeasible new
 next_all_feasible d new r q f leaves long next = record { each = λ k kl. next_feasible d r q k (row_of new k) f leaves (omega arith) (next k (omega arith)) }
 
-pub first_feasible : (p : Program) (d : Dictionary) → IsProgram p → length d.basic ≡ row_count p → ((k : ℕ) → k ≤ row_count p → IsFilledFor p k (row_of d k)) → IsFeasible d
+pub first_feasible : (p : Program) (d : CostForm) → IsProgram p → length d.basic ≡ row_count p → ((k : ℕ) → k ≤ row_count p → IsFilledFor p k (row_of d k)) → IsFeasible d
 first_feasible p d ip long each = record { each = λ k kl. subst (λ (y : ℤ). pos 0 ≤ℤ y) (sym ((each k (omega arith)).constant_below (omega arith))) (ip.not_negative k (omega arith)) }

@@ -12,4 +12,8 @@ pub mod Start
 pub mod Optimum
 pub mod Feasible
 pub mod OneRun
-pub mod Literal
+pub mod Turned
+pub mod BothForms
+pub mod BothRuns
+pub mod Laws
+pub mod Read

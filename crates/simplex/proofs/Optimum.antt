@@ -4,8 +4,8 @@ use Rattle.std.proofs.lemmas.Bool.{cases_lt, cases_eq}
 use Rattle.std.proofs.lemmas.Int.{ints, by_lt_z}
 use Rattle.simplex.specs.declared.Program.{Program}
 use Rattle.simplex.specs.Program.{at, row_count, variable_count, cell, limit, gain, sum_to}
-use Rattle.simplex.specs.Dictionary.{Dictionary, row_of, entry, owner, Belongs, IsRow, IsDictionary, AreParted, IsImproving}
-use Rattle.simplex.specs.Optimum.{ArePrimal, AreDual, IsOptimum, IsFeasible}
+use Rattle.simplex.specs.CostForm.{CostForm, row_of, entry, owner, Belongs, IsRow, IsDictionary, AreParted, IsImproving}
+use Rattle.simplex.specs.CostOptimum.{ArePrimal, AreDual, IsOptimum, IsFeasible}
 use Rattle.scaled_num.proofs.Ring.{ring, x, ◌⊕◌, ◌⊖◌, ◌⊗◌}
 use Rattle.simplex.proofs.Combine.{comb, cancel, sum_same, sum_zero, sum_weights, Belongs-comb}
 use Rattle.simplex.proofs.Unique.{Determines, owner-below, owner-last}
@@ -47,7 +47,7 @@ times_nothing : (w : ℤ) → w *ℤ pos 0 ≡ pos 0
 times_nothing w = omega (arith, ints)
 
 -- the rows of the dictionary hold at the values
-row_holds : (p : Program) (d : Dictionary) (denominator : ℤ) (values : ℕ → ℤ) (k : ℕ) (e : ℕ → ℤ) → AreParted p d.basic d.out → ArePrimal p d denominator values → k ≤ row_count p
+row_holds : (p : Program) (d : CostForm) (denominator : ℤ) (values : ℕ → ℤ) (k : ℕ) (e : ℕ → ℤ) → AreParted p d.basic d.out → ArePrimal p d denominator values → k ≤ row_count p
     → e (owner p d.basic k) ≡ entry d k 0 → ((s : ℕ) → s ≤ row_count p → s ≢ k → e (owner p d.basic s) ≡ pos 0) → residual (suc (variable_count p + row_count p)) values denominator e (entry d k 1) ≡ pos 0
 unfolding residual
 row_holds p d denominator values k e parted h kl own others =
@@ -72,7 +72,7 @@ row_holds p d denominator values k e parted h kl own others =
     ∙ omega (arith, ints)
 
 -- so each equation of the program holds: its basic variables are eliminated one by one
-all_hold : (p : Program) (d : Dictionary) (denominator : ℤ) (values : ℕ → ℤ) → IsDictionary p d → Determines p d.basic → ArePrimal p d denominator values
+all_hold : (p : Program) (d : CostForm) (denominator : ℤ) (values : ℕ → ℤ) → IsDictionary p d → Determines p d.basic → ArePrimal p d denominator values
     → (t : ℕ) → t ≤ suc (row_count p) → (e : ℕ → ℤ) (c : ℤ) → Belongs p e c → ((s : ℕ) → t ≤ s → s ≤ row_count p → e (owner p d.basic s) ≡ pos 0) → residual (suc (variable_count p + row_count p)) values denominator e c ≡ pos 0
 all_hold p d denominator values id det h zero tl e c b gone =
     let none = det.zero_at e c b (λ k kl. gone k (omega arith) kl) in
@@ -106,7 +106,7 @@ number_sum p k values =
     ∙ ap (λ (s : ℤ). sum_to n (λ j. number p k j *ℤ values j) +ℤ s) (sum_same m (λ i. number p k (n + i) *ℤ values (n + i)) (λ i. one_at k i *ℤ values (n + i)) (λ i il. ap (λ (y : ℤ). y *ℤ values (n + i)) (number_slack p k i))))
     (ap (λ (y : ℤ). y *ℤ values (n + m)) (number_slack p k m))
 
-equation : (p : Program) (d : Dictionary) (denominator : ℤ) (values : ℕ → ℤ) → IsDictionary p d → Determines p d.basic → ArePrimal p d denominator values → (i : ℕ) → i < row_count p
+equation : (p : Program) (d : CostForm) (denominator : ℤ) (values : ℕ → ℤ) → IsDictionary p d → Determines p d.basic → ArePrimal p d denominator values → (i : ℕ) → i < row_count p
     → sum_to (variable_count p) (λ j. cell p i j *ℤ values j) +ℤ values (variable_count p + i) ≡ limit p i *ℤ denominator
 unfolding residual
 equation p d denominator values id det h i il =
@@ -123,7 +123,7 @@ equation p d denominator values id det h i il =
     finish : (total a b c a2 b2 w : ℤ) → total ≡ (a +ℤ b) +ℤ c → total -ℤ w ≡ pos 0 → a ≡ a2 → b ≡ b2 → c ≡ pos 0 → a2 +ℤ b2 ≡ w
     finish total a b c a2 b2 w e h ea eb ec = omega (arith, ints)
 
-goal_value : (p : Program) (d : Dictionary) (denominator : ℤ) (values : ℕ → ℤ) → IsDictionary p d → Determines p d.basic → ArePrimal p d denominator values
+goal_value : (p : Program) (d : CostForm) (denominator : ℤ) (values : ℕ → ℤ) → IsDictionary p d → Determines p d.basic → ArePrimal p d denominator values
     → values (variable_count p + row_count p) ≡ sum_to (variable_count p) (λ j. gain p j *ℤ values j)
 unfolding residual
 goal_value p d denominator values id det h =
@@ -160,7 +160,7 @@ not_negative_factor a y h k = by_lt_z y (pos 0) (λ lt. absurd (let t : (y *ℤ 
 pub not_negative_product : (a b : ℤ) → pos 0 ≤ℤ a → pos 0 ≤ℤ b → pos 0 ≤ℤ (a *ℤ b)
 not_negative_product a b h k = (let t : (pos 0 *ℤ b) ≤ℤ (a *ℤ b) = times_le (pos 0) a b h k in subst (λ (y : ℤ). y ≤ℤ (a *ℤ b)) (times_zero b) t)
 
-pub optimum : (p : Program) (d : Dictionary) (denominator : ℤ) (values multipliers : ℕ → ℤ) → IsDictionary p d → Determines p d.basic → IsFeasible d → ((q : ℕ) → IsImproving d q → ⊥)
+pub optimum : (p : Program) (d : CostForm) (denominator : ℤ) (values multipliers : ℕ → ℤ) → IsDictionary p d → Determines p d.basic → IsFeasible d → ((q : ℕ) → IsImproving d q → ⊥)
     → ArePrimal p d denominator values → AreDual p d multipliers → IsOptimum p (entry d (row_count p) 0) denominator values multipliers
 optimum p d denominator values multipliers id det feasible none primal dual =
     let n : ℕ = variable_count p in

@@ -8,7 +8,7 @@ use Rattle.std.proofs.lemmas.Bool.{cases_lt, cases_eq}
 use Rattle.std.proofs.lemmas.List.{get_or-set_same, get_or-set_other, get_or_default, get_or_past}
 use Rattle.simplex.specs.declared.Program.{Program}
 use Rattle.simplex.specs.Program.{at, row_count, variable_count}
-use Rattle.simplex.specs.Dictionary.{owner, IsSpread, Belongs, AreCoprime, AreParted, IsRow}
+use Rattle.simplex.specs.CostForm.{owner, IsSpread, Belongs, AreCoprime, AreParted, IsRow}
 use Rattle.simplex.specs.Elimination.{own_of, pivot_of, eliminated, IsDivisor, IsReduced}
 use Rattle.simplex.specs.Tableau.{IsSwapped}
 use Rattle.scaled_num.proofs.Ring.{ring, x, ◌⊕◌, ◌⊖◌, ◌⊗◌}

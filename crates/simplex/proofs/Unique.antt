@@ -10,7 +10,7 @@ use Rattle.std.proofs.lemmas.List.FromFn.{get_or-range_with_len, length-range_wi
 use borrow.Author.Differences.{up, down}
 use Rattle.simplex.specs.declared.Program.{Program}
 use Rattle.simplex.specs.Program.{sum_to, at, row_count, variable_count, cell, limit, gain}
-use Rattle.simplex.specs.Dictionary.{Dictionary, row_of, entry, owner, IsSpread, Belongs, RowBelongs, AreCoprime, AreParted, IsRow, IsDictionary, IsImproving, Enters, IsBounding, ratio, Leaves, IsTraded, Pivot, IsFirst, Stands}
+use Rattle.simplex.specs.CostForm.{CostForm, row_of, entry, owner, IsSpread, Belongs, RowBelongs, AreCoprime, AreParted, IsRow, IsDictionary, IsImproving, Enters, IsBounding, ratio, Leaves, IsTraded, Pivot, IsFirst, Stands}
 use Rattle.scaled_num.proofs.Ring.{ring, x, ◌⊕◌, ◌⊖◌, ◌⊗◌}
 use Rattle.simplex.proofs.Combine.{comb, cancel, Belongs-comb, nothing}
 
@@ -154,14 +154,14 @@ same_row p basic out k one two parted det kl i1 i2 =
     (ap₂ (λ (y z : ℤ). b *ℤ y -ℤ a *ℤ z) (ap (at one) e ∙ sym (es.at_out q (let l = i1.long in omega arith))) (ap (at two) e ∙ sym (fs.at_out q (let l = i1.long in omega arith)))
     ∙ gone.0 (get_or out q 0) (let small : get_or out q 0 < variable_count p + row_count p = parted.out_below q (let l = i1.long in omega arith) in omega arith))))
 
-make : List ℕ → List ℕ → List (List ℤ) → Dictionary
+make : List ℕ → List ℕ → List (List ℤ) → CostForm
 make b o r = record { basic = b; out = o; rows = r }
 
-pub same_parts : (d e : Dictionary) → d.basic ≡ e.basic → d.out ≡ e.out → d.rows ≡ e.rows → d ≡ e
+pub same_parts : (d e : CostForm) → d.basic ≡ e.basic → d.out ≡ e.out → d.rows ≡ e.rows → d ≡ e
 unfolding make
 same_parts d e p q r = ap (λ (b : List ℕ). make b d.out d.rows) p ∙ ap (λ (o : List ℕ). make e.basic o d.rows) q ∙ ap (λ (s : List (List ℤ)). make e.basic e.out s) r
 
-pub same_dictionary : (p : Program) (d e : Dictionary) → IsDictionary p d → IsDictionary p e → d.basic ≡ e.basic → d.out ≡ e.out → Determines p d.basic → d ≡ e
+pub same_dictionary : (p : Program) (d e : CostForm) → IsDictionary p d → IsDictionary p e → d.basic ≡ e.basic → d.out ≡ e.out → Determines p d.basic → d ≡ e
 same_dictionary p d e id ie sb so det =
     same_parts d e sb so
     (ext_get_or [] d.rows e.rows (id.high ∙ sym ie.high)
@@ -170,18 +170,18 @@ same_dictionary p d e id ie sb so det =
     same_row p d.basic d.out k (row_of d k) (row_of e k) id.parted det kl (id.each k kl)
     (subst (λ (o : List ℕ). IsRow p d.basic o k (row_of e k)) (sym so) (subst (λ (b : List ℕ). IsRow p b e.out k (row_of e k)) (sym sb) (ie.each k kl)))))
 
-pub same_enters : (p : Program) (d : Dictionary) (q t : ℕ) → AreParted p d.basic d.out → Enters d q → Enters d t → q ≡ t
+pub same_enters : (p : Program) (d : CostForm) (q t : ℕ) → AreParted p d.basic d.out → Enters d q → Enters d t → q ≡ t
 same_enters p d q t parted eq et = parted.out_once q t (let l = parted.out_long in let i = eq.improving.0 in omega arith) (let l = parted.out_long in let i = et.improving.0 in omega arith) (le_antisymm (eq.least t et.improving) (et.least q eq.improving))
 
 antisymmetric : (a b : ℤ) → a ≤ℤ b → b ≤ℤ a → a ≡ b
 antisymmetric a b h k = omega (arith, ints)
 
-pub same_leaves : (p : Program) (d : Dictionary) (q k s : ℕ) → AreParted p d.basic d.out → Leaves d q k → Leaves d q s → k ≡ s
+pub same_leaves : (p : Program) (d : CostForm) (q k s : ℕ) → AreParted p d.basic d.out → Leaves d q k → Leaves d q s → k ≡ s
 same_leaves p d q k s parted lk ls =
     let tie : ratio d q k s ≡ ratio d q s k = antisymmetric (ratio d q k s) (ratio d q s k) (lk.least s ls.bounding) (ls.least k lk.bounding) in
     parted.basic_once k s (let l = parted.basic_long in let i = lk.bounding.0 in omega arith) (let l = parted.basic_long in let i = ls.bounding.0 in omega arith) (le_antisymm (lk.first s ls.bounding tie) (ls.first k lk.bounding (sym tie)))
 
-pub Determines-traded : (p : Program) (d new : Dictionary) (q k : ℕ) → IsDictionary p d → Enters d q → Leaves d q k → new.basic ≡ set d.basic k (get_or d.out q 0) → Determines p d.basic → Determines p new.basic
+pub Determines-traded : (p : Program) (d new : CostForm) (q k : ℕ) → IsDictionary p d → Enters d q → Leaves d q k → new.basic ≡ set d.basic k (get_or d.out q 0) → Determines p d.basic → Determines p new.basic
 Determines-traded p d new q k id enters leaves e det =
     let bl : length d.basic ≡ row_count p = id.parted.basic_long in
     let ol : length d.out ≡ variable_count p = id.parted.out_long in
@@ -192,17 +192,17 @@ Determines-traded p d new q k id enters leaves e det =
     ((id.each k (omega arith)).belongs) leaves.bounding.1 det)
 
 -- ---- along a run
-pub Stands-dictionary : (p : Program) (made : ℕ) (d : Dictionary) → Stands p made d → IsDictionary p d
+pub Stands-dictionary : (p : Program) (made : ℕ) (d : CostForm) → Stands p made d → IsDictionary p d
 Stands-dictionary p zero d s = s.dictionary
 Stands-dictionary p (suc made) d (before, s, pivot) = pivot.traded.dictionary
 
-pub Stands-determines : (p : Program) (made : ℕ) (d : Dictionary) → Stands p made d → Determines p d.basic
+pub Stands-determines : (p : Program) (made : ℕ) (d : CostForm) → Stands p made d → Determines p d.basic
 Stands-determines p zero d s = subst (Determines p) (sym s.basic) (Determines-first p)
 Stands-determines p (suc made) d (before, s, pivot) =
     Determines-traded p before d pivot.q pivot.k (Stands-dictionary p made before s) pivot.enters pivot.leaves pivot.traded.basic (Stands-determines p made before s)
 
 -- two trades of one dictionary, by the rule, give one dictionary
-pub same_traded : (p : Program) (d new other : Dictionary) (q k t s : ℕ) → IsDictionary p d → Determines p d.basic
+pub same_traded : (p : Program) (d new other : CostForm) (q k t s : ℕ) → IsDictionary p d → Determines p d.basic
     → Enters d q → Leaves d q k → IsTraded p d q k new → Enters d t → Leaves d t s → IsTraded p d t s other → new ≡ other
 same_traded p d new other q k t s id det eq lk tk et ls ts =
     let sq : q ≡ t = same_enters p d q t id.parted eq et in
@@ -212,9 +212,9 @@ same_traded p d new other q k t s id det eq lk tk et ls ts =
     (tk.out ∙ ap₂ (λ (a b : ℕ). set d.out b (get_or d.basic a 0)) sk sq ∙ sym ts.out)
     (Determines-traded p d new q k id eq lk tk.basic det)
 
-pub same_standing : (p : Program) (made : ℕ) (d e : Dictionary) → Stands p made d → Stands p made e → d ≡ e
+pub same_standing : (p : Program) (made : ℕ) (d e : CostForm) → Stands p made d → Stands p made e → d ≡ e
 same_standing p zero d e s t = same_dictionary p d e s.dictionary t.dictionary (s.basic ∙ sym t.basic) (s.out ∙ sym t.out) (Stands-determines p zero d s)
 same_standing p (suc made) d e (d0, s, i) (e0, t, j) =
     let same : d0 ≡ e0 = same_standing p made d0 e0 s t in
-    let j2 : Pivot p d0 e = subst (λ (y : Dictionary). Pivot p y e) (sym same) j in
+    let j2 : Pivot p d0 e = subst (λ (y : CostForm). Pivot p y e) (sym same) j in
     same_traded p d0 d e i.q i.k j2.q j2.k (Stands-dictionary p made d0 s) (Stands-determines p made d0 s) i.enters i.leaves i.traded j2.enters j2.leaves j2.traded
