@@ -3,8 +3,9 @@ pub mod Unique
 pub mod Narrow
 pub mod Divisor
 pub mod Trade
+pub mod Divided
+pub mod Options
 pub mod Choice
-pub mod Wide
 pub mod Rows
 pub mod Next
 pub mod Run
