@@ -5,6 +5,7 @@ pub mod Divisor
 pub mod Trade
 pub mod Divided
 pub mod Options
+pub mod Exchange
 pub mod Choice
 pub mod Rows
 pub mod Next
