@@ -8,7 +8,8 @@ use Rattle.std.proofs.Math.ListN.{length-set}
 use Rattle.simplex.specs.Program.{at, AllNarrow}
 use Rattle.simplex.specs.CostForm.{CostForm, row_of, entry}
 use Rattle.simplex.specs.Elimination.{eliminated, IsMade, IsMadeWide}
-use Rattle.simplex.specs.Tableau.{lists_of, list_at, at_row, AreMade, RowsWideFound, IsWideFound, IsShaped, IsExchanged, StaysNarrow, RowsHold, IsNext, IsSwapped}
+use Rattle.simplex.specs.declared.tableau.Tableau.{Tableau}
+use Rattle.simplex.specs.Tableau.{cost_form_of, lists_of, list_at, at_row, AreMade, RowsWideFound, IsWideFound, IsShaped, IsExchanged, StaysNarrow, RowsHold, IsNext, IsSwapped}
 use Rattle.simplex.proofs.Rows.{list_at-is, list_at-set_same, other_any}
 
 -- ---- exchange
@@ -131,3 +132,9 @@ wide_in_form d leave q row column shaped f = record {
     first = f.here.first;
     before = f.before;
 }
+
+-- the form of a tableau is that of its rows and its two lists
+pub form_kept : (a b : Tableau) → a.rows ≡ b.rows → a.basic ≡ b.basic → a.out ≡ b.out → cost_form_of a ≡ cost_form_of b
+form_kept a b r s t =
+    ap₂ (λ (rows : Vec (Vec ℤ Global) Global) (lists : List ℕ × List ℕ). let d : CostForm = record { basic = lists.0; out = lists.1; rows = lists_of rows.items } in d) r
+    (ap₂ (λ x y. (x, y)) (ap (λ (v : Vec ℕ Global). v.items) s) (ap (λ (v : Vec ℕ Global). v.items) t))

@@ -6,6 +6,9 @@ pub mod Trade
 pub mod Divided
 pub mod Options
 pub mod Exchange
+pub mod Traded
+pub mod Lowest
+pub mod ReadAt
 pub mod Choice
 pub mod Rows
 pub mod Next
