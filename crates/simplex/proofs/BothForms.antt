@@ -1,11 +1,11 @@
 -- A dictionary with a goal row and the same one with a row of costs say the same of a program.
-use Rattle.std.proofs.Common.{ℕ, zero, suc, ◌+◌, ◌<◌, ◌≤◌, ◌≡◌, ◌≢◌, ◌==◌, cond, ℤ, pos, neg_ℤ, ◌+ℤ◌, ◌-ℤ◌, ◌*ℤ◌, ◌<ℤ◌, List, [], ◌∷◌, length, get_or, slice_index, refl, sym, ap, ap₂, subst, ◌∙◌, arith, inl, inr, eq-eqb, ne_eqb}
+use Rattle.std.proofs.Common.{ℕ, ◌+◌, ◌<◌, ◌≡◌, ◌==◌, cond, ℤ, pos, neg_ℤ, ◌-ℤ◌, ◌*ℤ◌, ◌<ℤ◌, List, length, refl, sym, ap, ap₂, subst, ◌∙◌, arith, inl, inr, eq-eqb, ne_eqb}
 use Rattle.std.proofs.lemmas.Int.{ints}
-use Rattle.std.proofs.lemmas.Bool.{cases_lt, cases_eq}
+use Rattle.std.proofs.lemmas.Bool.{cases_lt}
 use Rattle.std.proofs.Math.IntN.{neg_ℤ-neg_ℤ}
 use Rattle.simplex.specs.declared.Program.{Program}
 use Rattle.simplex.specs.Program.{sum_to, at, row_count, variable_count, cell, limit, gain}
-use Rattle.simplex.specs.Dictionary.{Dictionary, AreParted, AreCoprime, IsSpread, RowBelongs, GoalBelongs, IsDictionary, row_at, number}
+use Rattle.simplex.specs.Dictionary.{Dictionary, AreParted, AreCoprime, RowBelongs, GoalBelongs, IsDictionary}
 use Rattle.simplex.specs.CostForm as cost
 use Rattle.simplex.specs.CostForm.{CostForm, row_of, entry, owner, Belongs, IsRow}
 use Rattle.simplex.specs.Forms.{turned, with_costs}
@@ -88,17 +88,17 @@ costs_of_dictionary p d id =
       high = length-rows d ∙ ap (λ (n : ℕ). n + 1) high;
       each = λ k kl. elim (cases_lt k m) [
         | inl lt ↦ record {
-            long = ap length (row-below d k (omega arith)) ∙ id.long k lt;
-            belongs = belongs-below p d k id.parted lt (omega arith) (id.belongs k lt);
-            lead = subst (λ (y : ℤ). pos 0 <ℤ y) (sym (entry-below d k 0 (omega arith))) (id.leads k lt);
-            coprime = subst AreCoprime (sym (row-below d k (omega arith))) (id.coprime k lt);
-          }
+          long = ap length (row-below d k (omega arith)) ∙ id.long k lt;
+          belongs = belongs-below p d k id.parted lt (omega arith) (id.belongs k lt);
+          lead = subst (λ (y : ℤ). pos 0 <ℤ y) (sym (entry-below d k 0 (omega arith))) (id.leads k lt);
+          coprime = subst AreCoprime (sym (row-below d k (omega arith))) (id.coprime k lt);
+        }
         | inr ge ↦ (let last : row_of (with_costs d) k ≡ turned d.goal = row-last d k (omega arith) in record {
-            long = ap length last ∙ length-turned d.goal ∙ id.goal_long;
-            belongs = belongs-last p d k id.parted (omega arith) (omega arith) id.goal_belongs;
-            lead = subst (λ (y : ℤ). pos 0 <ℤ y) (sym (ap (λ (row : List ℤ). at row 0) last ∙ turned-lead d.goal)) id.goal_lead;
-            coprime = subst AreCoprime (sym last) (AreCoprime-turned d.goal id.goal_coprime);
-          })
+          long = ap length last ∙ length-turned d.goal ∙ id.goal_long;
+          belongs = belongs-last p d k id.parted (omega arith) (omega arith) id.goal_belongs;
+          lead = subst (λ (y : ℤ). pos 0 <ℤ y) (sym (ap (λ (row : List ℤ). at row 0) last ∙ turned-lead d.goal)) id.goal_lead;
+          coprime = subst AreCoprime (sym last) (AreCoprime-turned d.goal id.goal_coprime);
+        })
       ];
     }
 

@@ -1,19 +1,19 @@
 -- The textbook run with goal rows and the same run with rows of costs.
-use Rattle.std.proofs.Common.{ℕ, zero, suc, ◌+◌, ◌<◌, ◌≤◌, ◌≡◌, ◌≢◌, ◌^◌, ℤ, pos, neg_ℤ, ◌*ℤ◌, ◌<ℤ◌, ◌≤ℤ◌, List, [], ◌∷◌, ◌++◌, length, get_or, slice_index, refl, sym, ap, ap₂, subst, subst₂, ◌∙◌, arith, inl, inr, unsigned_abs}
+use Rattle.std.proofs.Common.{ℕ, zero, suc, ◌+◌, ◌<◌, ◌≤◌, ◌≡◌, ◌^◌, ℤ, pos, neg_ℤ, ◌*ℤ◌, ◌<ℤ◌, ◌≤ℤ◌, List, [], ◌∷◌, length, get_or, refl, sym, ap, ap₂, subst, subst₂, ◌∙◌, arith, inl, inr, unsigned_abs}
 use Rattle.std.proofs.lemmas.Int.{ints}
-use Rattle.std.proofs.lemmas.Bool.{cases_lt, cases_eq}
+use Rattle.std.proofs.lemmas.Bool.{cases_lt}
 use Rattle.std.proofs.lemmas.List.{length-append, get_or_append_left}
 use Rattle.std.proofs.Math.Seq.{get_or-append_seam}
 use Rattle.simplex.specs.declared.Program.{Program}
 use Rattle.simplex.specs.declared.End.{End}
 use Rattle.simplex.specs.declared.End.TheVariants.{Optimal, Spent, Unbounded, Wide}
-use Rattle.simplex.specs.Program.{at, row_count, variable_count, IsNarrow, AllNarrow}
-use Rattle.simplex.specs.Dictionary.{Dictionary, IsDictionary, IsNarrowDictionary, row_at, number}
-use Rattle.simplex.specs.Run.{IsImproving, Enters, IsBounding, ratio, Leaves, IsTraded, IsFirst, IsPivot, IsRun, IsWideAt, all_rows, EndsWide, EndsUnbounded, Ends, RunEnds}
+use Rattle.simplex.specs.Program.{at, row_count, AllNarrow}
+use Rattle.simplex.specs.Dictionary.{Dictionary, IsDictionary, IsNarrowDictionary, number}
+use Rattle.simplex.specs.Run.{IsImproving, Enters, IsBounding, ratio, Leaves, IsTraded, IsFirst, IsPivot, IsRun, IsWideAt, all_rows, Ends, RunEnds}
 use Rattle.simplex.specs.CostForm as cost
 use Rattle.simplex.specs.CostForm.{CostForm, row_of, entry, Stands, Pivot}
 use Rattle.simplex.specs.Forms.{turned, with_costs, with_goal}
-use Rattle.simplex.proofs.Turned.{turned-coefficient, turned-size, length-turned, turned_twice, AllNarrow-turned, row-below, row-last, entry-below, length-rows, with_goal-with_costs, with_costs-with_goal}
+use Rattle.simplex.proofs.Turned.{turned-coefficient, turned-size, length-turned, turned_twice, AllNarrow-turned, row-below, row-last, entry-below, length-rows, with_costs-with_goal}
 use Rattle.simplex.proofs.BothForms.{costs_of_dictionary, dictionary_of_costs}
 use Rattle.simplex.proofs.Unique.{Stands-dictionary}
 
@@ -60,16 +60,16 @@ ratio_is d q k s h kl sl = ap₂ ◌*ℤ◌ (entry_is d k 1 h kl) (entry_is d s 
 
 pub leaves_to : (d : Dictionary) (q k : ℕ) → Square d → Leaves d q k → cost.Leaves (with_costs d) q k
 leaves_to d q k h l = record {
-    bounding = bounding_to d q k h l.bounding;
-    least = λ s b. subst₂ (λ (x y : ℤ). x ≤ℤ y) (sym (ratio_is d q k s h l.bounding.0 b.0)) (sym (ratio_is d q s k h b.0 l.bounding.0)) (l.least s (bounding_from d q s h b));
-    first = λ s b e. l.first s (bounding_from d q s h b) (sym (ratio_is d q k s h l.bounding.0 b.0) ∙ e ∙ ratio_is d q s k h b.0 l.bounding.0);
+  bounding = bounding_to d q k h l.bounding;
+  least = λ s b. subst₂ (λ (x y : ℤ). x ≤ℤ y) (sym (ratio_is d q k s h l.bounding.0 b.0)) (sym (ratio_is d q s k h b.0 l.bounding.0)) (l.least s (bounding_from d q s h b));
+  first = λ s b e. l.first s (bounding_from d q s h b) (sym (ratio_is d q k s h l.bounding.0 b.0) ∙ e ∙ ratio_is d q s k h b.0 l.bounding.0);
 }
 
 pub leaves_from : (d : Dictionary) (q k : ℕ) → Square d → cost.Leaves (with_costs d) q k → Leaves d q k
 leaves_from d q k h l = record {
-    bounding = bounding_from d q k h l.bounding;
-    least = λ s b. subst₂ (λ (x y : ℤ). x ≤ℤ y) (ratio_is d q k s h l.bounding.0 b.0) (ratio_is d q s k h b.0 l.bounding.0) (l.least s (bounding_to d q s h b));
-    first = λ s b e. l.first s (bounding_to d q s h b) (ratio_is d q k s h l.bounding.0 b.0 ∙ e ∙ sym (ratio_is d q s k h b.0 l.bounding.0));
+  bounding = bounding_from d q k h l.bounding;
+  least = λ s b. subst₂ (λ (x y : ℤ). x ≤ℤ y) (ratio_is d q k s h l.bounding.0 b.0) (ratio_is d q s k h b.0 l.bounding.0) (l.least s (bounding_to d q s h b));
+  first = λ s b e. l.first s (bounding_to d q s h b) (ratio_is d q k s h l.bounding.0 b.0 ∙ e ∙ sym (ratio_is d q s k h b.0 l.bounding.0));
 }
 
 pub traded_to : (p : Program) (d new : Dictionary) (q k : ℕ) → IsTraded p d q k new → cost.IsTraded p (with_costs d) q k (with_costs new)
@@ -81,14 +81,14 @@ traded_from p d new q k t = record { dictionary = dictionary_of_costs p new t.di
 -- ---- narrow numbers
 pub narrow_to : (p : Program) (d : Dictionary) → length d.rows ≡ row_count p → IsNarrowDictionary d → cost.IsNarrowDictionary p (with_costs d)
 narrow_to p d h n = λ k kl. elim (cases_lt k (row_count p)) [
-    | inl lt ↦ subst AllNarrow (sym (row-below d k (omega arith))) (n.rows k (omega arith))
-    | inr ge ↦ subst AllNarrow (sym (row-last d k (omega arith))) (AllNarrow-turned d.goal n.goal)
+  | inl lt ↦ subst AllNarrow (sym (row-below d k (omega arith))) (n.rows k (omega arith))
+  | inr ge ↦ subst AllNarrow (sym (row-last d k (omega arith))) (AllNarrow-turned d.goal n.goal)
 ]
 
 pub narrow_from : (p : Program) (d : Dictionary) → length d.rows ≡ row_count p → cost.IsNarrowDictionary p (with_costs d) → IsNarrowDictionary d
 narrow_from p d h n = record {
-    rows = λ k kl. subst AllNarrow (row-below d k kl) (n k (omega arith));
-    goal = subst AllNarrow (ap turned (row-last d (row_count p) (sym h)) ∙ turned_twice d.goal) (AllNarrow-turned _ (n (row_count p) (omega arith)));
+  rows = λ k kl. subst AllNarrow (row-below d k kl) (n k (omega arith));
+  goal = subst AllNarrow (ap turned (row-last d (row_count p) (sym h)) ∙ turned_twice d.goal) (AllNarrow-turned _ (n (row_count p) (omega arith)));
 }
 
 -- ---- the run
@@ -100,12 +100,12 @@ first_from p d f = record { dictionary = dictionary_of_costs p d f.dictionary; b
 
 pub pivot_to : (p : Program) (d new : Dictionary) → Square d → IsPivot p d new → Pivot p (with_costs d) (with_costs new)
 pivot_to p d new h i = record {
-    q = i.q;
-    k = i.k;
-    enters = enters_to d i.q h i.enters;
-    leaves = leaves_to d i.q i.k h i.leaves;
-    traded = traded_to p d new i.q i.k i.traded;
-    narrow = narrow_to p new i.traded.dictionary.high i.narrow;
+  q = i.q;
+  k = i.k;
+  enters = enters_to d i.q h i.enters;
+  leaves = leaves_to d i.q i.k h i.leaves;
+  traded = traded_to p d new i.q i.k i.traded;
+  narrow = narrow_to p new i.traded.dictionary.high i.narrow;
 }
 
 pub pivot_from : (p : Program) (d new : Dictionary) → Square d → Pivot p (with_costs d) (with_costs new) → IsPivot p d new
@@ -149,13 +149,13 @@ run_from p (suc made) d (last, s, pivot) =
 -- ---- the ends
 size_of_row : (d : Dictionary) (k : ℕ) → k ≤ length d.rows → (length (row_of (with_costs d) k) ≡ length (get_or (all_rows d) k [])) × ((j : ℕ) → unsigned_abs (entry (with_costs d) k j) ≡ unsigned_abs (at (get_or (all_rows d) k []) j))
 size_of_row d k kl = elim (cases_lt k (length d.rows)) [
-    | inl lt ↦ (let e : row_of (with_costs d) k ≡ get_or (all_rows d) k [] = row-below d k lt ∙ sym (get_or_append_left d.rows (d.goal ∷ []) [] k lt) in (ap length e, λ j. ap (λ (row : List ℤ). unsigned_abs (at row j)) e))
-    | inr ge ↦
-        (let one : row_of (with_costs d) k ≡ turned d.goal = row-last d k (omega arith) in
-        let two : get_or (all_rows d) k [] ≡ d.goal = ap (λ (i : ℕ). get_or (all_rows d) i []) (let e : k ≡ length d.rows = omega arith in e) ∙ get_or-append_seam d.rows d.goal [] [] in (
-          ap length one ∙ length-turned d.goal ∙ ap length (sym two),
-          λ j. ap (λ (row : List ℤ). unsigned_abs (at row j)) one ∙ turned-size d.goal j ∙ ap (λ (row : List ℤ). unsigned_abs (at row j)) (sym two),
-        ))
+  | inl lt ↦ (let e : row_of (with_costs d) k ≡ get_or (all_rows d) k [] = row-below d k lt ∙ sym (get_or_append_left d.rows (d.goal ∷ []) [] k lt) in (ap length e, λ j. ap (λ (row : List ℤ). unsigned_abs (at row j)) e))
+  | inr ge ↦
+      (let one : row_of (with_costs d) k ≡ turned d.goal = row-last d k (omega arith) in
+      let two : get_or (all_rows d) k [] ≡ d.goal = ap (λ (i : ℕ). get_or (all_rows d) i []) (let e : k ≡ length d.rows = omega arith in e) ∙ get_or-append_seam d.rows d.goal [] [] in (
+        ap length one ∙ length-turned d.goal ∙ ap length (sym two),
+        λ j. ap (λ (row : List ℤ). unsigned_abs (at row j)) one ∙ turned-size d.goal j ∙ ap (λ (row : List ℤ). unsigned_abs (at row j)) (sym two),
+      ))
 ]
 
 length-all_rows : (d : Dictionary) → length (all_rows d) ≡ length d.rows + 1
@@ -215,10 +215,10 @@ ends_from p pivots made d (Wide row col) h (less, e) =
 -- a run that ends so in one form ends so in the other
 unfoldable pub run_ends_to : (p : Program) (pivots : ℕ) (d : Dictionary) (end : End) → RunEnds p pivots d end → cost.RunEnds p pivots (with_costs d) end
 run_ends_to p pivots d end r = record {
-    made = length r.before;
-    within = r.within;
-    stands = run_to p d r.before r.run;
-    ends = ends_to p pivots (length r.before) d end (square p d (run_dictionary p d r.before r.run)) r.ends;
+  made = length r.before;
+  within = r.within;
+  stands = run_to p d r.before r.run;
+  ends = ends_to p pivots (length r.before) d end (square p d (run_dictionary p d r.before r.run)) r.ends;
 }
 
 pub run_ends_from : (p : Program) (pivots : ℕ) (d : CostForm) (end : End) → cost.RunEnds p pivots d end → RunEnds p pivots (with_goal d) end

@@ -1,11 +1,11 @@
 -- Bland's rule, as far as a loop has come.
-use Rattle.std.proofs.Common.{IsTrue, nat_lt, int_lt, ◌↔◌, ℕ, zero, suc, ◌+◌, ◌-◌, ◌*◌, ◌<◌, ◌≤◌, ◌≡◌, ◌≢◌, ◌⊎◌, ℤ, pos, negsuc, ◌+ℤ◌, ◌-ℤ◌, ◌*ℤ◌, ◌<ℤ◌, ◌≤ℤ◌, List, [], ◌∷◌, length, get_or, slice_index, refl, sym, ap, ap₂, subst, ◌∙◌, inl, inr, arith, Option, Some, None, mul-le-mul_left, mul-lt-mul_of_pos_right}
+use Rattle.std.proofs.Common.{IsTrue, nat_lt, int_lt, ◌↔◌, ℕ, ◌+◌, ◌<◌, ◌≤◌, ◌≡◌, ℤ, pos, negsuc, ◌*ℤ◌, ◌<ℤ◌, ◌≤ℤ◌, [], ◌∷◌, length, slice_index, sym, ap, subst, ◌∙◌, inl, inr, arith, Option, Some, None, mul-le-mul_left, mul-lt-mul_of_pos_right}
 use Rattle.std.proofs.lemmas.Int.{ints, by_lt_z}
 use Rattle.std.proofs.lemmas.Bool.{cases_lt, cases_eq}
 use borrow.Author.Differences.{up, down}
 use Rattle.simplex.specs.CostForm.{CostForm, entry, IsImproving, Enters, IsBounding, ratio, Leaves}
 use Rattle.simplex.specs.Tableau.{IsTighter, EntersSoFar, LeavesSoFar}
-use Rattle.scaled_num.proofs.Ring.{ring, x, ◌⊕◌, ◌⊖◌, ◌⊗◌}
+use Rattle.scaled_num.proofs.Ring.{ring, x, ◌⊗◌}
 use Rattle.simplex.proofs.Combine.{cancel}
 
 pub enters_none : (d : CostForm) → EntersSoFar d 0 None

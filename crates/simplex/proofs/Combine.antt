@@ -1,10 +1,10 @@
 -- Combinations of rows that belong to a program, as functions from variables.
-use Rattle.std.proofs.Common.{inl, inr, ◌-◌, ℕ, zero, suc, ◌+◌, ◌*◌, ◌<◌, ◌≤◌, ◌≡◌, ◌≢◌, ℤ, pos, negsuc, ◌+ℤ◌, ◌-ℤ◌, ◌*ℤ◌, ◌<ℤ◌, ◌≤ℤ◌, List, [], ◌∷◌, get_or, refl, sym, ap, ap₂, ◌∙◌, arith, le_antisymm, le_of_mul-le-mul_right, le_of_eq}
+use Rattle.std.proofs.Common.{inl, inr, ◌-◌, ℕ, zero, suc, ◌+◌, ◌*◌, ◌<◌, ◌≤◌, ◌≡◌, ℤ, pos, negsuc, ◌+ℤ◌, ◌-ℤ◌, ◌*ℤ◌, ◌<ℤ◌, [], ◌∷◌, refl, sym, ap, ap₂, ◌∙◌, arith, le_antisymm, le_of_mul-le-mul_right}
 use Rattle.std.proofs.lemmas.Int.{ints}
 use Rattle.std.proofs.lemmas.Bool.{cases_lt}
 use borrow.Author.Differences.{up, down, product_is, same_in, same_out}
 use Rattle.simplex.specs.declared.Program.{Program}
-use Rattle.simplex.specs.Program.{sum_to, at, row_count, variable_count, cell, limit, gain}
+use Rattle.simplex.specs.Program.{sum_to, row_count, variable_count, cell, limit, gain}
 use Rattle.simplex.specs.CostForm.{Belongs}
 use Rattle.scaled_num.proofs.Ring.{ring, x, ◌⊕◌, ◌⊖◌, ◌⊗◌}
 

@@ -1,23 +1,22 @@
 -- Rows combined, and divided by the greatest common divisor of their numbers.
-use Rattle.std.proofs.Common.{ℕ, zero, suc, ◌+◌, ◌-◌, ◌*◌, ◌^◌, ◌<◌, ◌≤◌, ◌≡◌, ◌≢◌, ℤ, pos, negsuc, ◌+ℤ◌, ◌-ℤ◌, ◌*ℤ◌, ◌<ℤ◌, List, length, get_or, set, refl, sym, ap, ap₂, ◌∙◌, subst, arith, unsigned_abs, inl, inr, mul-le-mul_left, mul_comm, lit≤, [], ◌∷◌, FitsSigned}
+use Rattle.std.proofs.Common.{ℕ, suc, ◌+◌, ◌*◌, ◌^◌, ◌<◌, ◌≤◌, ◌≡◌, ◌≢◌, ℤ, pos, negsuc, ◌-ℤ◌, ◌*ℤ◌, ◌<ℤ◌, List, length, set, refl, sym, ap, ◌∙◌, subst, arith, unsigned_abs, inl, inr, mul-le-mul_left, mul_comm, lit≤, [], ◌∷◌, FitsSigned}
 use Rattle.std.specs.Int.{◌∣◌, IsGcd, w128}
 use Rattle.std.proofs.Math.Nat.{le_of_dvd, eq-zero_of_zero-dvd, dvd-mul_right}
 use Rattle.std.proofs.Math.ListN.{length-set}
 use Rattle.std.proofs.lemmas.Int.{ints, unsigned_abs-mul}
 use Rattle.std.proofs.lemmas.Bool.{cases_lt, cases_eq}
 use Rattle.std.proofs.lemmas.List.{get_or-set_same, get_or-set_other}
-use Rattle.std.proofs.Math.Nat.{lt_of_mul-lt-mul_left}
-use Rattle.scaled_num.proofs.Ring.{ring, x, ◌⊕◌, ◌⊖◌, ◌⊗◌}
+use Rattle.scaled_num.proofs.Ring.{ring, x, ◌⊗◌}
 use Rattle.simplex.specs.Program.{at, IsNarrow, AllNarrow}
-use Rattle.simplex.specs.Elimination.{eliminated, IsDivisor, IsReduced, IsFirstWide, IsCombined, AreSmall, DividedSoFar, AreDivided, IsMade, IsMadeWide}
+use Rattle.simplex.specs.Elimination.{eliminated, IsDivisor, IsCombined, DividedSoFar, AreDivided, IsMade, IsMadeWide}
 use Rattle.simplex.proofs.Narrow.{product_small, difference_small}
 use Rattle.simplex.proofs.Divisor.{lead_there, lead_positive}
 
 -- ---- a list that is written place by place
 pub set_more : (xs : List ℤ) (n : ℕ) (y : ℤ) (f : ℕ → ℤ) → n < length xs → ((k : ℕ) → k < n → at xs k ≡ f k) → y ≡ f n → (k : ℕ) → k < n + 1 → at (set xs n y) k ≡ f k
 set_more xs n y f nl h e k kl = elim (cases_eq k n) [
-    | inl same ↦ ap (at (set xs n y)) same ∙ get_or-set_same xs n y (pos 0) nl ∙ e ∙ ap f (sym same)
-    | inr ne ↦ get_or-set_other xs n k y (pos 0) ne ∙ h k (omega arith)
+  | inl same ↦ ap (at (set xs n y)) same ∙ get_or-set_same xs n y (pos 0) nl ∙ e ∙ ap f (sym same)
+  | inr ne ↦ get_or-set_other xs n k y (pos 0) ne ∙ h k (omega arith)
 ]
 
 pub set_left : (xs first : List ℤ) (n : ℕ) (y : ℤ) → ((k : ℕ) → n ≤ k → at xs k ≡ at first k) → (k : ℕ) → n + 1 ≤ k → at (set xs n y) k ≡ at first k
@@ -78,14 +77,14 @@ divided_none first start positive h = record { long = refl; positive = positive;
 
 pub divided_more : (first now : List ℤ) (g quotient : ℤ) (n : ℕ) → n < length now → g *ℤ quotient ≡ at now n → DividedSoFar first now g n → DividedSoFar first (set now n quotient) g (n + 1)
 divided_more first now g quotient n nl e so = record {
-    long = length-set now n quotient ∙ so.long;
-    positive = so.positive;
-    done = λ k kl. elim (cases_eq k n) [
-      | inl same ↦ ap (λ (i : ℕ). g *ℤ at (set now n quotient) i) same ∙ ap (λ (y : ℤ). g *ℤ y) (get_or-set_same now n quotient (pos 0) nl) ∙ e ∙ so.left n (omega arith) ∙ ap (at first) (sym same)
-      | inr ne ↦ ap (λ (y : ℤ). g *ℤ y) (get_or-set_other now n k quotient (pos 0) ne) ∙ so.done k (omega arith)
-    ];
-    left = set_left now first n quotient so.left;
-    greatest = so.greatest;
+  long = length-set now n quotient ∙ so.long;
+  positive = so.positive;
+  done = λ k kl. elim (cases_eq k n) [
+    | inl same ↦ ap (λ (i : ℕ). g *ℤ at (set now n quotient) i) same ∙ ap (λ (y : ℤ). g *ℤ y) (get_or-set_same now n quotient (pos 0) nl) ∙ e ∙ so.left n (omega arith) ∙ ap (at first) (sym same)
+    | inr ne ↦ ap (λ (y : ℤ). g *ℤ y) (get_or-set_other now n k quotient (pos 0) ne) ∙ so.done k (omega arith)
+  ];
+  left = set_left now first n quotient so.left;
+  greatest = so.greatest;
 }
 
 -- the divisor is made smaller, and the numbers before are multiplied by what it lost
@@ -118,20 +117,20 @@ times_one_is y = ring (y ∷ pos 1 ∷ []) (x 1 ⊗ x 0) (x 0) (omega arith)
 
 pub divided_by_one : (first now : List ℤ) (g : ℤ) (n : ℕ) → g ≡ pos 1 → DividedSoFar first now g n → AreDivided first now
 divided_by_one first now g n one so = record {
-    g = g;
-    positive = so.positive;
-    each = λ k kl. elim (cases_lt k n) [
-      | inl lt ↦ so.done k lt
-      | inr ge ↦ ap (λ (y : ℤ). y *ℤ at now k) one ∙ times_one_is (at now k) ∙ so.left k ge
-    ];
-    greatest = so.greatest;
+  g = g;
+  positive = so.positive;
+  each = λ k kl. elim (cases_lt k n) [
+    | inl lt ↦ so.done k lt
+    | inr ge ↦ ap (λ (y : ℤ). y *ℤ at now k) one ∙ times_one_is (at now k) ∙ so.left k ge
+  ];
+  greatest = so.greatest;
 }
 
 -- a common divisor is not 0 where one of the numbers is not
 pub common_positive : (a b : ℤ) (common : ℕ) → pos 0 <ℤ a → IsGcd (unsigned_abs a) (unsigned_abs b) common → 0 < common
 common_positive a b common h gcd = elim (cases_eq common 0) [
-    | inl z ↦ absurd (let none : unsigned_abs a ≡ 0 = eq-zero_of_zero-dvd (subst (λ (i : ℕ). i ∣ unsigned_abs a) z gcd.0) in omega (arith, ints))
-    | inr ne ↦ omega arith
+  | inl z ↦ absurd (let none : unsigned_abs a ≡ 0 = eq-zero_of_zero-dvd (subst (λ (i : ℕ). i ∣ unsigned_abs a) z gcd.0) in omega (arith, ints))
+  | inr ne ↦ omega arith
 ]
 
 pub common_small : (a b : ℤ) (common : ℕ) → pos 0 <ℤ a → IsGcd (unsigned_abs a) (unsigned_abs b) common → common ≤ unsigned_abs a
@@ -144,25 +143,25 @@ common_fits a b common f h gcd = (let most : common ≤ unsigned_abs a = common_
 pub part_small : (common : ℕ) (ratio g y : ℤ) → 0 < common → pos common *ℤ ratio ≡ g → unsigned_abs (g *ℤ y) < 2 ^ 125 → unsigned_abs (ratio *ℤ y) < 2 ^ 125
 part_small common ratio g y some e h =
     let whole : unsigned_abs (g *ℤ y) ≡ common * unsigned_abs (ratio *ℤ y) =
-        ap (λ (z : ℤ). unsigned_abs (z *ℤ y)) (sym e)
-        ∙ ap unsigned_abs (ring (pos common ∷ ratio ∷ y ∷ []) ((x 0 ⊗ x 1) ⊗ x 2) (x 0 ⊗ (x 1 ⊗ x 2)) (omega arith))
-        ∙ unsigned_abs-mul (pos common) (ratio *ℤ y) in
+    ap (λ (z : ℤ). unsigned_abs (z *ℤ y)) (sym e)
+    ∙ ap unsigned_abs (ring (pos common ∷ ratio ∷ y ∷ []) ((x 0 ⊗ x 1) ⊗ x 2) (x 0 ⊗ (x 1 ⊗ x 2)) (omega arith))
+    ∙ unsigned_abs-mul (pos common) (ratio *ℤ y) in
     omega (arith, mul-le-mul_left {m = 1} {n = common} (unsigned_abs (ratio *ℤ y)) some, mul_comm common (unsigned_abs (ratio *ℤ y)))
 
 -- ---- the row that is made
 abbrev pub divisor_is : (row pivot whole new : List ℤ) (q : ℕ) → IsCombined row pivot q whole → (h : AreDivided whole new) → IsDivisor row pivot q (unsigned_abs h.g)
 divisor_is row pivot whole new q c h = record {
-    positive = (let i = h.positive in omega (arith, ints));
-    divides = λ k kl. subst (λ (y : ℕ). unsigned_abs h.g ∣ y) (sym (unsigned_abs-mul h.g (at new k)) ∙ ap unsigned_abs (h.each k (let l = c.long in omega arith) ∙ c.each k kl)) (dvd-mul_right (unsigned_abs h.g) (unsigned_abs (at new k)));
-    greatest = λ d all. h.greatest d (λ k kl. subst (λ (y : ℤ). d ∣ unsigned_abs y) (sym (c.each k (let l = c.long in omega arith))) (all k (let l = c.long in omega arith)));
+  positive = (let i = h.positive in omega (arith, ints));
+  divides = λ k kl. subst (λ (y : ℕ). unsigned_abs h.g ∣ y) (sym (unsigned_abs-mul h.g (at new k)) ∙ ap unsigned_abs (h.each k (let l = c.long in omega arith) ∙ c.each k kl)) (dvd-mul_right (unsigned_abs h.g) (unsigned_abs (at new k)));
+  greatest = λ d all. h.greatest d (λ k kl. subst (λ (y : ℤ). d ∣ unsigned_abs y) (sym (c.each k (let l = c.long in omega arith))) (all k (let l = c.long in omega arith)));
 }
 
 pub is_made : (row pivot whole new : List ℤ) (q : ℕ) → length new ≡ length row → IsCombined row pivot q whole → AreDivided whole new → AllNarrow new → IsMade row pivot q new
 is_made row pivot whole new q long c h narrow = record {
-    g = unsigned_abs h.g;
-    divisor = divisor_is row pivot whole new q c h;
-    reduced = record { long = long; each = λ k kl. ap (λ (y : ℤ). y *ℤ at new k) (positive_is h.g h.positive) ∙ h.each k (let l = c.long in omega arith) ∙ c.each k kl };
-    narrow = narrow;
+  g = unsigned_abs h.g;
+  divisor = divisor_is row pivot whole new q c h;
+  reduced = record { long = long; each = λ k kl. ap (λ (y : ℤ). y *ℤ at new k) (positive_is h.g h.positive) ∙ h.each k (let l = c.long in omega arith) ∙ c.each k kl };
+  narrow = narrow;
 }
 
 size_is : (g y z : ℤ) → g *ℤ y ≡ z → unsigned_abs z ≡ unsigned_abs g * unsigned_abs y

@@ -1,12 +1,11 @@
 -- The greatest common divisor of the first columns, and one column more.
-use Rattle.std.proofs.Common.{ℕ, zero, suc, ◌+◌, ◌-◌, ◌*◌, ◌/◌, ◌^◌, ◌<◌, ◌≤◌, ◌≡◌, ◌≢◌, ℤ, pos, negsuc, ◌+ℤ◌, ◌-ℤ◌, ◌*ℤ◌, ◌<ℤ◌, ◌≤ℤ◌, List, length, refl, sym, ap, ◌∙◌, subst, arith, unsigned_abs, inl, inr, mul-pos}
+use Rattle.std.proofs.Common.{ℕ, ◌+◌, ◌*◌, ◌<◌, ◌≤◌, ◌≡◌, ◌≢◌, ℤ, pos, ◌*ℤ◌, ◌<ℤ◌, List, length, sym, ap, ◌∙◌, subst, arith, unsigned_abs, inl, inr, mul-pos}
 use Rattle.std.specs.Int.{◌∣◌, IsGcd}
-use Rattle.std.proofs.Math.Nat.{dvd_trans, dvd-zero, eq-one_of_dvd-one, one-dvd, eq-zero_of_zero-dvd}
+use Rattle.std.proofs.Math.Nat.{dvd_trans, dvd-zero, one-dvd, eq-zero_of_zero-dvd}
 use Rattle.std.proofs.lemmas.Int.{ints, unsigned_abs-mul}
-use Rattle.std.proofs.lemmas.Bool.{cases_lt, cases_eq}
+use Rattle.std.proofs.lemmas.Bool.{cases_eq}
 use Rattle.simplex.specs.Program.{at}
-use Rattle.simplex.specs.Elimination.{own_of, pivot_of, eliminated, IsDivisor}
-use Rattle.scaled_num.proofs.Ring.{ring, x, ◌⊕◌, ◌⊖◌, ◌⊗◌}
+use Rattle.simplex.specs.Elimination.{eliminated, IsDivisor}
 
 -- g is the greatest common divisor of the columns below n
 pub record DividesSoFar (row pivot : List ℤ) (place g n : ℕ) : Type 0 where

@@ -1,15 +1,15 @@
 -- The constants stay at least 0, by the least ratio.
-use Rattle.std.proofs.Common.{ℕ, zero, suc, ◌+◌, ◌<◌, ◌≤◌, ◌≡◌, ◌≢◌, ℤ, pos, ◌+ℤ◌, ◌*ℤ◌, ◌-ℤ◌, ◌<ℤ◌, ◌≤ℤ◌, List, [], ◌∷◌, length, get_or, refl, sym, ap, ap₂, subst, ◌∙◌, inl, inr, arith}
+use Rattle.std.proofs.Common.{ℕ, ◌+◌, ◌<◌, ◌≤◌, ◌≡◌, ◌≢◌, ℤ, pos, ◌*ℤ◌, ◌-ℤ◌, ◌≤ℤ◌, List, [], ◌∷◌, length, refl, sym, subst, ◌∙◌, inl, inr, arith}
 use Rattle.std.proofs.lemmas.Int.{ints, by_lt_z}
 use Rattle.std.proofs.lemmas.Bool.{cases_lt}
 use Rattle.std.proofs.lemmas.List.{get_or_past}
 use Rattle.simplex.specs.declared.Program.{Program}
-use Rattle.simplex.specs.Program.{at, row_count, variable_count, limit, IsProgram}
-use Rattle.simplex.specs.CostForm.{CostForm, row_of, entry, Leaves, IsBounding, ratio}
+use Rattle.simplex.specs.Program.{at, row_count, IsProgram}
+use Rattle.simplex.specs.CostForm.{CostForm, row_of, entry, Leaves}
 use Rattle.simplex.specs.CostOptimum.{IsFeasible}
 use Rattle.simplex.specs.Start.{IsFilledFor}
 use Rattle.simplex.specs.Tableau.{IsNext}
-use Rattle.scaled_num.proofs.Ring.{ring, x, ◌⊕◌, ◌⊖◌, ◌⊗◌}
+use Rattle.scaled_num.proofs.Ring.{ring, x, ◌⊗◌}
 use Rattle.simplex.proofs.Choice.{times_le}
 use Rattle.simplex.proofs.Start.{times_zero}
 use Rattle.simplex.proofs.Optimum.{not_negative_factor, not_negative_product}

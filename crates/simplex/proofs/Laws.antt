@@ -1,10 +1,10 @@
 -- The two lists determine a dictionary along a run, and a program has one textbook run with one end.
-use Rattle.std.proofs.Common.{ℕ, suc, ◌+◌, ◌≡◌, List, [], ◌∷◌, length, refl, sym, ap, ap₂, subst, ◌∙◌, arith}
+use Rattle.std.proofs.Common.{ℕ, suc, ◌≡◌, List, [], ◌∷◌, length, refl, sym, ap, ap₂, subst, ◌∙◌, arith}
 use Rattle.simplex.specs.declared.Program.{Program}
 use Rattle.simplex.specs.declared.End.{End}
 use Rattle.simplex.specs.Dictionary.{Dictionary, IsDictionary}
 use Rattle.simplex.specs.Run.{IsRun, RunEnds}
-use Rattle.simplex.specs.CostForm.{CostForm, Stands}
+use Rattle.simplex.specs.CostForm.{Stands}
 use Rattle.simplex.specs.Forms.{with_costs, with_goal}
 use Rattle.simplex.proofs.Turned.{with_goal-with_costs}
 use Rattle.simplex.proofs.BothForms.{costs_of_dictionary}

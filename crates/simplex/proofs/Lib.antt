@@ -9,6 +9,7 @@ pub mod Exchange
 pub mod Traded
 pub mod Lowest
 pub mod ReadAt
+pub mod Standing
 pub mod Choice
 pub mod Rows
 pub mod Next

@@ -1,10 +1,10 @@
 -- What no improving variable means.
-use Rattle.std.proofs.Common.{ℕ, zero, suc, ◌+◌, ◌-◌, ◌*◌, ◌<◌, ◌≤◌, ◌≡◌, ◌≢◌, ◌⊎◌, ℤ, pos, negsuc, neg_ℤ, ◌+ℤ◌, ◌*ℤ◌, ◌-ℤ◌, ◌<ℤ◌, ◌≤ℤ◌, List, [], ◌∷◌, length, get_or, slice_index, refl, sym, ap, ap₂, subst, ◌∙◌, inl, inr, arith}
+use Rattle.std.proofs.Common.{ℕ, zero, suc, ◌+◌, ◌<◌, ◌≤◌, ◌≡◌, ◌≢◌, ℤ, pos, neg_ℤ, ◌+ℤ◌, ◌*ℤ◌, ◌-ℤ◌, ◌<ℤ◌, ◌≤ℤ◌, [], ◌∷◌, length, get_or, refl, sym, ap, ap₂, subst, ◌∙◌, inl, inr, arith}
 use Rattle.std.proofs.lemmas.Bool.{cases_lt, cases_eq}
 use Rattle.std.proofs.lemmas.Int.{ints, by_lt_z}
 use Rattle.simplex.specs.declared.Program.{Program}
-use Rattle.simplex.specs.Program.{at, row_count, variable_count, cell, limit, gain, sum_to}
-use Rattle.simplex.specs.CostForm.{CostForm, row_of, entry, owner, Belongs, IsRow, IsDictionary, AreParted, IsImproving}
+use Rattle.simplex.specs.Program.{row_count, variable_count, cell, limit, gain, sum_to}
+use Rattle.simplex.specs.CostForm.{CostForm, entry, owner, Belongs, IsDictionary, AreParted, IsImproving}
 use Rattle.simplex.specs.CostOptimum.{ArePrimal, AreDual, IsOptimum, IsFeasible}
 use Rattle.scaled_num.proofs.Ring.{ring, x, ◌⊕◌, ◌⊖◌, ◌⊗◌}
 use Rattle.simplex.proofs.Combine.{comb, cancel, sum_same, sum_zero, sum_weights, Belongs-comb}

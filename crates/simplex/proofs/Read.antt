@@ -1,19 +1,19 @@
 -- At the end of an optimal run the values and multipliers that are read exist over common denominators and are an optimum.
-use Rattle.std.proofs.Common.{ℕ, zero, suc, ◌+◌, ◌<◌, ◌≤◌, ◌≡◌, ◌≢◌, ◌⊎◌, ℤ, pos, neg_ℤ, ◌*ℤ◌, ◌<ℤ◌, ◌≤ℤ◌, List, [], ◌∷◌, length, get_or, slice_index, take, refl, sym, ap, ap₂, subst, subst₂, ◌∙◌, arith, inl, inr}
+use Rattle.std.proofs.Common.{ℕ, zero, suc, ◌+◌, ◌<◌, ◌≤◌, ◌≡◌, ◌≢◌, ◌⊎◌, ℤ, pos, neg_ℤ, ◌*ℤ◌, ◌<ℤ◌, ◌≤ℤ◌, List, [], ◌∷◌, length, slice_index, refl, sym, ap, subst, ◌∙◌, arith, inl, inr}
 use Rattle.std.proofs.lemmas.Int.{ints}
 use Rattle.std.proofs.lemmas.Bool.{cases_lt, cases_eq}
 use Rattle.std.proofs.lemmas.List.{get_or-take}
 use Rattle.std.proofs.Math.IntN.{neg_ℤ-neg_ℤ}
-use Rattle.scaled_num.proofs.Ring.{ring, x, ◌⊕◌, ◌⊖◌, ◌⊗◌}
+use Rattle.scaled_num.proofs.Ring.{ring, x, ◌⊗◌}
 use Rattle.simplex.specs.declared.Program.{Program}
-use Rattle.simplex.specs.Program.{sum_to, at, row_count, variable_count, cell, limit, gain}
-use Rattle.simplex.specs.Dictionary.{Dictionary, AreParted, number}
-use Rattle.simplex.specs.Reading.{IsPrimal, IsPrice, IsDual, AreRead, IsOptimum}
+use Rattle.simplex.specs.Program.{sum_to, at, row_count, variable_count, cell, gain}
+use Rattle.simplex.specs.Dictionary.{AreParted, number}
+use Rattle.simplex.specs.Reading.{AreRead, IsOptimum}
 use Rattle.simplex.specs.CostForm as cost
 use Rattle.simplex.specs.CostForm.{CostForm, row_of, entry, owner, IsRow}
 use Rattle.simplex.specs.CostOptimum as inner
 use Rattle.simplex.specs.CostOptimum.{ArePrimal, AreDual}
-use Rattle.simplex.specs.Forms.{turned, with_goal}
+use Rattle.simplex.specs.Forms.{with_goal}
 use Rattle.simplex.proofs.Combine.{cancel}
 use Rattle.simplex.proofs.Choice.{times_lt}
 use Rattle.simplex.proofs.Start.{times_zero}
@@ -38,8 +38,8 @@ cofactor : (n : ℕ) (f : ℕ → ℤ) (k : ℕ) → k < n → (c : ℤ) × (f k
 unfolding product_to
 cofactor zero f k h = absurd (omega arith)
 cofactor (suc n) f k h = elim (cases_eq k n) [
-    | inl e ↦ (product_to n f, ap (λ (i : ℕ). f i *ℤ product_to n f) e ∙ ring (f n ∷ product_to n f ∷ []) (x 0 ⊗ x 1) (x 1 ⊗ x 0) (omega arith))
-    | inr ne ↦ (let c = cofactor n f k (omega arith) in (c.0 *ℤ f n, ring (f k ∷ c.0 ∷ f n ∷ []) (x 0 ⊗ (x 1 ⊗ x 2)) ((x 0 ⊗ x 1) ⊗ x 2) (omega arith) ∙ ap (λ (y : ℤ). y *ℤ f n) c.1))
+  | inl e ↦ (product_to n f, ap (λ (i : ℕ). f i *ℤ product_to n f) e ∙ ring (f n ∷ product_to n f ∷ []) (x 0 ⊗ x 1) (x 1 ⊗ x 0) (omega arith))
+  | inr ne ↦ (let c = cofactor n f k (omega arith) in (c.0 *ℤ f n, ring (f k ∷ c.0 ∷ f n ∷ []) (x 0 ⊗ (x 1 ⊗ x 2)) ((x 0 ⊗ x 1) ⊗ x 2) (omega arith) ∙ ap (λ (y : ℤ). y *ℤ f n) c.1))
 ]
 
 -- ---- where a variable stands
@@ -50,11 +50,11 @@ find : (f : ℕ → ℕ) (n v : ℕ) → Found f n v
 unfolding Found
 find f zero v = inr (λ k kl. absurd (omega arith))
 find f (suc n) v = elim (cases_eq (f n) v) [
-    | inl e ↦ inl (n, omega arith, e)
-    | inr ne ↦ elim (find f n v) [
-      | inl (k, kl, e) ↦ inl (k, omega arith, e)
-      | inr none ↦ inr (λ k kl. elim (cases_lt k n) [ inl lt ↦ none k lt | inr ge ↦ (λ e. ne (ap f (let i : n ≡ k = omega arith in i) ∙ e)) ])
-    ]
+  | inl e ↦ inl (n, omega arith, e)
+  | inr ne ↦ elim (find f n v) [
+    | inl (k, kl, e) ↦ inl (k, omega arith, e)
+    | inr none ↦ inr (λ k kl. elim (cases_lt k n) [ inl lt ↦ none k lt | inr ge ↦ (λ e. ne (ap f (let i : n ≡ k = omega arith in i) ∙ e)) ])
+  ]
 ]
 
 -- ---- values

@@ -1,12 +1,11 @@
 -- A value and a price as they are read at a place.
-use Rattle.std.proofs.Common.{ℕ, ◌+◌, ◌<◌, ◌≤◌, ◌≡◌, ◌≢◌, ℤ, pos, neg_ℤ, ◌*ℤ◌, ◌<ℤ◌, List, [], ◌∷◌, length, slice_index, refl, sym, ap, subst, ◌∙◌, arith, unsigned_abs}
-use Rattle.std.specs.Int.{◌∣◌}
+use Rattle.std.proofs.Common.{ℕ, ◌+◌, ◌<◌, ◌≡◌, ◌≢◌, ℤ, pos, neg_ℤ, ◌*ℤ◌, length, slice_index, refl, sym, ap, subst, ◌∙◌, arith}
 use Rattle.std.proofs.Math.Nat.{eq-one_of_dvd-one}
 use Rattle.std.proofs.lemmas.Int.{ints}
 use Rattle.std.proofs.Math.IntN.{neg_ℤ-neg_ℤ}
 use Rattle.simplex.specs.declared.Program.{Program}
-use Rattle.simplex.specs.Program.{at, row_count, variable_count, IsNarrow}
-use Rattle.simplex.specs.Dictionary.{AreParted, AreCoprime, number}
+use Rattle.simplex.specs.Program.{at, row_count, variable_count}
+use Rattle.simplex.specs.Dictionary.{AreParted, number}
 use Rattle.simplex.specs.Reading.{IsLowest, IsPrimal, IsPrice}
 use Rattle.simplex.specs.CostForm.{CostForm, IsDictionary, entry}
 use Rattle.simplex.specs.Forms.{with_goal}

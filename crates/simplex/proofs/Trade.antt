@@ -1,17 +1,17 @@
 -- What a pivot does to the lists, and to each row: it belongs to the program again, its lead is positive, and its numbers are coprime.
-use Rattle.std.proofs.Common.{ℕ, zero, suc, ◌+◌, ◌-◌, ◌*◌, ◌<◌, ◌≤◌, ◌≡◌, ◌≢◌, ◌⊎◌, ℤ, pos, negsuc, ◌+ℤ◌, ◌-ℤ◌, ◌*ℤ◌, ◌<ℤ◌, ◌≤ℤ◌, List, [], ◌∷◌, length, get_or, set, refl, sym, ap, ap₂, subst, ◌∙◌, inl, inr, arith, unsigned_abs, int_div, cond, nat_eq, mul-pos, mul-one}
+use Rattle.std.proofs.Common.{ℕ, zero, suc, ◌+◌, ◌*◌, ◌<◌, ◌≤◌, ◌≡◌, ◌≢◌, ℤ, pos, negsuc, ◌-ℤ◌, ◌*ℤ◌, ◌<ℤ◌, List, [], ◌∷◌, length, get_or, set, refl, sym, ap, ap₂, subst, ◌∙◌, inl, inr, arith, unsigned_abs, int_div, mul-pos, mul-one}
 use Rattle.std.specs.Int.{◌∣◌}
 use Rattle.std.proofs.Math.Nat.{mul-dvd-mul_left, dvd_of_mul-dvd-mul_left, eq-one_of_dvd-one, dvd-zero}
 use Rattle.std.proofs.Math.ListN.{length-set}
 use Rattle.std.proofs.lemmas.Int.{ints, unsigned_abs-mul}
 use Rattle.std.proofs.lemmas.Bool.{cases_lt, cases_eq}
-use Rattle.std.proofs.lemmas.List.{get_or-set_same, get_or-set_other, get_or_default, get_or_past}
+use Rattle.std.proofs.lemmas.List.{get_or-set_same, get_or-set_other}
 use Rattle.simplex.specs.declared.Program.{Program}
 use Rattle.simplex.specs.Program.{at, row_count, variable_count}
-use Rattle.simplex.specs.CostForm.{owner, IsSpread, Belongs, AreCoprime, AreParted, IsRow}
-use Rattle.simplex.specs.Elimination.{own_of, pivot_of, eliminated, IsDivisor, IsReduced}
+use Rattle.simplex.specs.CostForm.{owner, Belongs, AreParted, IsRow}
+use Rattle.simplex.specs.Elimination.{eliminated, IsDivisor, IsReduced}
 use Rattle.simplex.specs.Tableau.{IsSwapped}
-use Rattle.scaled_num.proofs.Ring.{ring, x, ◌⊕◌, ◌⊖◌, ◌⊗◌}
+use Rattle.scaled_num.proofs.Ring.{ring, x, ◌⊖◌, ◌⊗◌}
 use Rattle.simplex.proofs.Combine.{comb, cancel, Belongs-comb, Belongs-divided}
 use Rattle.simplex.proofs.Unique.{owner-set_same, owner-set_other, owner-below, owner-last, by_column}
 use Rattle.simplex.proofs.Narrow.{quotient_exact}

@@ -1,10 +1,9 @@
 -- The rows after a pivot: exchanged for what was made of them, but the pivot row, which is swapped.
 use Rattle.std.proofs.Common.{ℕ, ◌+◌, ◌<◌, ◌≤◌, ◌≡◌, ◌≢◌, ℤ, pos, List, Vec, Global, length, get_or, set, refl, sym, ap, subst, ◌∙◌, inl, inr, arith}
-use Rattle.std.proofs.lemmas.Bool.{cases_lt, cases_eq}
+use Rattle.std.proofs.lemmas.Bool.{cases_eq}
 use Rattle.std.proofs.lemmas.List.{length-map}
-use Rattle.std.proofs.Math.ListN.{length-set}
 use Rattle.simplex.specs.Program.{at, AllNarrow}
-use Rattle.simplex.specs.CostForm.{CostForm, row_of, entry}
+use Rattle.simplex.specs.CostForm.{CostForm}
 use Rattle.simplex.specs.Tableau.{lists_of, list_at, AreMade, IsExchanged, IsNext, IsSwapped, IsShaped}
 use Rattle.simplex.proofs.Rows.{list_at-is, list_at-set_same, other_any}
 use Rattle.simplex.proofs.Next.{swapped_narrow}

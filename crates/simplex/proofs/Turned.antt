@@ -1,12 +1,12 @@
 -- A goal row and its row of costs.
-use Rattle.std.proofs.Common.{ℕ, zero, suc, ◌+◌, ◌<◌, ◌≤◌, ◌≡◌, ℤ, pos, negsuc, neg_ℤ, List, [], ◌∷◌, ◌++◌, map, take, length, get_or, refl, sym, ap, ap₂, subst, ◌∙◌, ◌^◌, arith, unsigned_abs, inl, inr}
+use Rattle.std.proofs.Common.{ℕ, suc, ◌+◌, ◌<◌, ◌≡◌, ℤ, pos, neg_ℤ, List, [], ◌∷◌, ◌++◌, map, take, length, get_or, refl, sym, ap, ap₂, subst, ◌∙◌, ◌^◌, arith, unsigned_abs}
 use Rattle.std.specs.Int.{◌∣◌}
 use Rattle.std.proofs.lemmas.Int.{ints}
-use Rattle.std.proofs.lemmas.List.{length-map, length-append, get_or_append_left, take-append-le}
+use Rattle.std.proofs.lemmas.List.{length-map, length-append, get_or_append_left}
 use Rattle.std.proofs.Math.IntN.{neg_ℤ-neg_ℤ}
 use Rattle.std.proofs.Math.ListN.{get_or-map}
 use Rattle.std.proofs.Math.Seq.{get_or-append_seam, take-append_seam, take-suc, take-length}
-use Rattle.simplex.specs.Program.{at, IsNarrow, AllNarrow}
+use Rattle.simplex.specs.Program.{at, AllNarrow}
 use Rattle.simplex.specs.Dictionary.{Dictionary, AreCoprime, row_at, number}
 use Rattle.simplex.specs.CostForm.{CostForm, row_of, entry}
 use Rattle.simplex.specs.Forms.{turned, with_costs, with_goal}

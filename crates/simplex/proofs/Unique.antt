@@ -1,17 +1,16 @@
 -- Along a run a dictionary is determined by its two lists, and so the run by its program.
-use Rattle.std.proofs.Common.{ℕ, zero, suc, ◌+◌, ◌-◌, ◌*◌, ◌/◌, ◌%◌, ◌<◌, ◌≤◌, ◌≡◌, ◌≢◌, ℤ, pos, negsuc, ◌+ℤ◌, ◌-ℤ◌, ◌*ℤ◌, ◌<ℤ◌, ◌≤ℤ◌, List, [], ◌∷◌, length, get_or, set, refl, sym, ap, ap₂, subst, ◌∙◌, inl, inr, arith, unsigned_abs, le_antisymm, mod-lt, div-add-mod'}
+use Rattle.std.proofs.Common.{ℕ, zero, suc, ◌+◌, ◌*◌, ◌/◌, ◌%◌, ◌<◌, ◌≤◌, ◌≡◌, ◌≢◌, ℤ, pos, ◌-ℤ◌, ◌*ℤ◌, ◌<ℤ◌, ◌≤ℤ◌, List, [], ◌∷◌, length, get_or, set, refl, sym, ap, ap₂, subst, ◌∙◌, inl, inr, arith, unsigned_abs, le_antisymm, mod-lt, div-add-mod'}
 use Rattle.std.specs.Int.{◌∣◌}
 use Rattle.std.specs.List.{range_with_len}
-use Rattle.std.proofs.Math.Nat.{dvd-mul_left_of_dvd, dvd-mul_right, dvd-add_iff_right, dvd-mod_iff, dvd_of_mul-dvd-mul_left, dvd-zero, dvd_refl, eq_of_mul-eq-mul_left, mul-div_cancel', dvd-mul_right_of_dvd}
+use Rattle.std.proofs.Math.Nat.{dvd-mul_left_of_dvd, dvd-mul_right, dvd-add_iff_right, dvd-mod_iff, dvd_of_mul-dvd-mul_left, dvd-zero, dvd_refl, mul-div_cancel'}
 use Rattle.std.proofs.lemmas.Int.{ints, unsigned_abs-mul}
 use Rattle.std.proofs.lemmas.Bool.{cases_lt, cases_eq}
 use Rattle.std.proofs.lemmas.List.{get_or-set_same, get_or-set_other, get_or_default, get_or_past, ext_get_or}
 use Rattle.std.proofs.lemmas.List.FromFn.{get_or-range_with_len, length-range_with_len}
-use borrow.Author.Differences.{up, down}
 use Rattle.simplex.specs.declared.Program.{Program}
-use Rattle.simplex.specs.Program.{sum_to, at, row_count, variable_count, cell, limit, gain}
-use Rattle.simplex.specs.CostForm.{CostForm, row_of, entry, owner, IsSpread, Belongs, RowBelongs, AreCoprime, AreParted, IsRow, IsDictionary, IsImproving, Enters, IsBounding, ratio, Leaves, IsTraded, Pivot, IsFirst, Stands}
-use Rattle.scaled_num.proofs.Ring.{ring, x, ◌⊕◌, ◌⊖◌, ◌⊗◌}
+use Rattle.simplex.specs.Program.{at, row_count, variable_count}
+use Rattle.simplex.specs.CostForm.{CostForm, row_of, owner, Belongs, RowBelongs, AreCoprime, AreParted, IsRow, IsDictionary, Enters, ratio, Leaves, IsTraded, Pivot, Stands}
+use Rattle.scaled_num.proofs.Ring.{ring, x, ◌⊖◌, ◌⊗◌}
 use Rattle.simplex.proofs.Combine.{comb, cancel, Belongs-comb, nothing}
 
 -- what belongs to the program and is 0 at the basic variables is 0

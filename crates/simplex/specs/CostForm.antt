@@ -1,7 +1,6 @@
 -- The form of dictionaries, runs and ends that the solver works on: the goal row is an ordinary row, the last one, with costs.
 -- The textbook's own words stand in Dictionary and Run, and both forms say the same of a program.
-use Rattle.std.specs.Prelude.{ℕ, zero, suc, ◌+◌, ◌<◌, ◌≤◌, ◌≡◌, ◌≢◌, ℤ, pos, ◌+ℤ◌, ◌-ℤ◌, ◌*ℤ◌, ◌<ℤ◌, ◌≤ℤ◌, ◌⊎◌, ◌^◌, List, [], map, length, slice_index_or, slice_index, slice_set, unsigned_abs}
-use Rattle.std.specs.Int.{◌∣◌}
+use Rattle.std.specs.Prelude.{ℕ, zero, suc, ◌+◌, ◌<◌, ◌≤◌, ◌≡◌, ◌≢◌, ℤ, pos, ◌-ℤ◌, ◌*ℤ◌, ◌<ℤ◌, ◌≤ℤ◌, ◌^◌, List, [], length, slice_index_or, slice_index, slice_set, unsigned_abs}
 use Rattle.std.specs.List.{range_with_len}
 use Rattle.simplex.specs.declared.Program.{Program}
 use Rattle.simplex.specs.declared.End.{End}

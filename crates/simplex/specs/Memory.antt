@@ -1,5 +1,5 @@
 -- What the solver keeps true of its memory.
-use Rattle.std.specs.Prelude.{ℕ, ◌+◌, ◌<◌, ◌≤◌, ◌≡◌, ◌^◌, Bool, true, false, cond, [], length, Some, None}
+use Rattle.std.specs.Prelude.{◌+◌, ◌<◌, ◌≤◌, ◌≡◌, ◌^◌, true, false, cond, [], length, Some, None}
 use Rattle.std.specs.Vec.{vec_capacity}
 use Rattle.simplex.specs.declared.solver.Solver.TheInside.{Inside}
 use Rattle.simplex.specs.Forms.{with_goal}

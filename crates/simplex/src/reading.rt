@@ -1,10 +1,10 @@
 //! Places in a list, and fractions in lowest terms.
 
-use scaled_num::gcd;
-
 ghost use Rattle.std.specs.Prelude.{◌≡◌, ◌≢◌, ℕ, ◌<◌, ◌^◌, pos, ◌*ℤ◌, ◌<ℤ◌, length, slice_index, IfNone, IfSome, unsigned_abs};
 ghost use Rattle.simplex.specs.Program.{IsNarrow};
 ghost use Rattle.simplex.specs.Reading.{IsLowest};
+
+use scaled_num::gcd;
 
 /// The first place of a number in a list.
 pub fn place_of(list: &[u32], number: u32) -> Option<usize>

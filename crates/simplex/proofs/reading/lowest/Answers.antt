@@ -1,6 +1,6 @@
-use Rattle.std.proofs.Common.{◌≡◌, ◌<◌, ◌≤◌, ◌+◌, ◌^◌, ◌*ℤ◌, ◌<ℤ◌, ℕ, ℤ, pos, List, ap, ap₂, ◌∙◌, sym, subst, subst₂, FitsSigned, int_div, to_z, of_z, to_z-of_z, unsigned_abs, arith, rules}
+use Rattle.std.proofs.Common.{◌≡◌, ◌<◌, ◌^◌, ◌*ℤ◌, ℕ, ℤ, pos, sym, subst₂, FitsSigned, int_div, to_z-of_z, unsigned_abs, arith}
 use Rattle.std.specs.Int.{w128, IsGcd}
-use Rattle.std.proofs.lemmas.Int.{ints, to_z_pos}
+use Rattle.std.proofs.lemmas.Int.{ints}
 use Rattle.simplex.specs.Reading.{IsLowest}
 use Rattle.simplex.proofs.Narrow.{quotient_exact, quotient_is, quotient_fits}
 use Rattle.simplex.proofs.Divided.{common_positive, common_fits}

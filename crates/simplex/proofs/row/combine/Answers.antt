@@ -1,4 +1,4 @@
-use Rattle.std.proofs.Common.{◌≡◌, ◌+◌, ◌-ℤ◌, ◌*ℤ◌, ℕ, ℤ, pos, ap, ◌∙◌, FitsSigned, to_z, of_z, to_z-of_z, arith, rules, length}
+use Rattle.std.proofs.Common.{◌+◌, ◌-ℤ◌, ℕ, ℤ, pos, ap, ◌∙◌, FitsSigned, to_z-of_z, arith, rules}
 use Rattle.std.specs.Int.{w128}
 use Rattle.simplex.specs.Program.{at}
 use Rattle.simplex.proofs.Narrow.{narrow_fits}

@@ -1,4 +1,4 @@
-use Rattle.std.proofs.Common.{◌≡◌, ◌*ℤ◌, ℤ, ap, ◌∙◌, subst, FitsSigned, to_z, of_z, to_z-of_z, rules}
+use Rattle.std.proofs.Common.{FitsSigned, to_z-of_z, rules}
 use Rattle.std.specs.Int.{w128}
 use Rattle.simplex.specs.Program.{at}
 use Rattle.simplex.proofs.Divided.{divided_more}

@@ -1,8 +1,7 @@
-use Rattle.std.proofs.Common.{◌≡◌, ◌<◌, ◌^◌, ℕ, ℤ, pos, ap, ◌∙◌, sym, subst, FitsSigned, to_z, of_z, to_z-of_z, arith, rules, unsigned_abs}
+use Rattle.std.proofs.Common.{ℤ, sym, subst, FitsSigned, to_z-of_z}
 use Rattle.std.specs.Int.{w128}
-use Rattle.simplex.specs.Program.{at}
 use Rattle.simplex.specs.Elimination.{DividedSoFar}
-use Rattle.simplex.proofs.Divided.{divided_none, divided_all, divided_by_one}
+use Rattle.simplex.proofs.Divided.{divided_none}
 use Rattle.simplex.proofs.row.divide_out.Goals as goal
 
 pub loop-column-init : goal.loop-column-init

@@ -1,9 +1,7 @@
-use Rattle.std.proofs.Common.{◌≡◌, ◌<◌, ◌≤◌, ◌+◌, ◌^◌, ◌*ℤ◌, ◌<ℤ◌, ℕ, ℤ, pos, List, ap, ap₂, ◌∙◌, sym, subst, subst₂, FitsSigned, to_z, of_z, to_z-of_z, unsigned_abs, arith, rules, length}
+use Rattle.std.proofs.Common.{◌≡◌, ◌<◌, ◌+◌, ◌^◌, ◌<ℤ◌, ℕ, ℤ, pos, List, sym, subst, subst₂, FitsSigned, to_z-of_z, unsigned_abs, arith, rules, length}
 use Rattle.std.specs.Int.{w128, ◌∣◌, IsGcd}
 use Rattle.std.proofs.lemmas.Int.{ints, to_z_pos}
 use Rattle.simplex.specs.Program.{at}
-use Rattle.simplex.specs.Elimination.{IsCombined, AreDivided}
-use Rattle.simplex.proofs.Divisor.{lead_there}
 use Rattle.simplex.proofs.Divided.{common_positive, common_fits, start_common, combined_lead, is_made, is_made_wide}
 use Rattle.simplex.proofs.Options.{IfNone_then, IfSome_three}
 use Rattle.simplex.proofs.row.next_row.Goals as goal

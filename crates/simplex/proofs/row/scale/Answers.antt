@@ -1,4 +1,4 @@
-use Rattle.std.proofs.Common.{◌≡◌, ◌≤◌, ◌<◌, ◌^◌, ◌+◌, ◌*ℤ◌, ℕ, ℤ, ap, ◌∙◌, sym, subst, FitsSigned, to_z, of_z, to_z-of_z, arith, rules, unsigned_abs, [], ◌∷◌, lit≤}
+use Rattle.std.proofs.Common.{◌≡◌, ◌≤◌, ◌<◌, ◌^◌, ◌*ℤ◌, ℕ, ℤ, ap, ◌∙◌, sym, subst, FitsSigned, to_z-of_z, arith, rules, unsigned_abs, [], ◌∷◌, lit≤}
 use Rattle.std.specs.Int.{w128}
 use Rattle.std.proofs.lemmas.Int.{fits_signed_from_abs}
 use Rattle.scaled_num.proofs.Ring.{ring, x, ◌⊗◌}

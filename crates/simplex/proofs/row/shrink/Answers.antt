@@ -1,4 +1,4 @@
-use Rattle.std.proofs.Common.{◌≡◌, ◌<◌, ◌≤◌, ◌+◌, ◌^◌, ◌*ℤ◌, ◌<ℤ◌, ℕ, ℤ, pos, List, ap, ap₂, ◌∙◌, sym, subst, subst₂, FitsSigned, int_div, to_z, of_z, to_z-of_z, unsigned_abs, arith, rules, length, slice_set, refl}
+use Rattle.std.proofs.Common.{◌≡◌, ◌<◌, ◌+◌, ◌^◌, ◌*ℤ◌, ℕ, ℤ, pos, ap, ◌∙◌, sym, subst, subst₂, FitsSigned, int_div, to_z, to_z-of_z, unsigned_abs, arith, rules, slice_set, refl}
 use Rattle.std.specs.Int.{w128, IsGcd}
 use Rattle.std.proofs.lemmas.Int.{ints, to_z_pos}
 use Rattle.simplex.specs.Program.{at}

@@ -1,4 +1,4 @@
-use Rattle.std.proofs.Common.{◌≡◌, ◌≢◌, ◌<◌, ◌≤◌, ◌+◌, ◌⊎◌, ℕ, ℤ, pos, List, Vec, Global, length, sym, ap, subst, ◌∙◌, arith, refl, get_or, inl, inr, set, FitsSigned, to_z, of_z, to_z-of_z, rules}
+use Rattle.std.proofs.Common.{◌≡◌, ◌<◌, ◌+◌, ℕ, ℤ, pos, List, Vec, Global, length, sym, ap, subst, ◌∙◌, arith, get_or, inl, inr, set, FitsSigned, to_z, of_z, to_z-of_z, rules}
 use Rattle.std.specs.Int.{w128}
 use Rattle.std.proofs.lemmas.List.{get_or_read, get_or_default}
 use Rattle.simplex.specs.Program.{at}

@@ -1,4 +1,4 @@
-use Rattle.std.proofs.Common.{◌≡◌, ◌≢◌, ◌<◌, ◌≤◌, ◌+◌, ◌^◌, ◌<ℤ◌, ℕ, ℤ, pos, List, Vec, Global, length, sym, ap, subst, subst₂, ◌∙◌, arith, refl, get_or, set, FitsSigned, to_z, of_z, to_z-of_z, rules}
+use Rattle.std.proofs.Common.{◌≡◌, ◌<◌, ◌≤◌, ◌+◌, ◌^◌, ◌<ℤ◌, ℕ, ℤ, pos, List, Vec, Global, length, sym, ap, subst, subst₂, ◌∙◌, arith, refl, get_or, FitsSigned, to_z, of_z, to_z-of_z, rules}
 use Rattle.std.specs.Int.{w128}
 use Rattle.std.specs.Vec.{with_items}
 use Rattle.std.proofs.lemmas.List.{get_or_read, with_items_is}
@@ -112,7 +112,7 @@ loop-row-preserved c =
           let target : w.deref_mut.result.now ≡ list_at c.loop-row.next n = read_row c.loop-row.next n w.index-next-row.result w.deref_mut.result.now inside w.deref_mut.ensures.value in
           let items : t.items ≡ w.next_row.new.new = with_items_is v w.next_row.new.new (let a = w.next_row.auto.new in let b = w.deref_mut.ensures.len in omega arith) in
           let made : IsMade (list_at c.args.rows.now n) (list_at c.args.rows.now c.args.leave) c.args.place t.items =
-              subst (IsMade (list_at c.args.rows.now n) (list_at c.args.rows.now c.args.leave) c.args.place) (sym items) (subst₂ (λ (a b : List ℤ). IsMade a b c.args.place w.next_row.new.new) row pivot w.in_default.ensures.none) in
+          subst (IsMade (list_at c.args.rows.now n) (list_at c.args.rows.now c.args.leave) c.args.place) (sym items) (subst₂ (λ (a b : List ℤ). IsMade a b c.args.place w.next_row.new.new) row pivot w.in_default.ensures.none) in
           record {
             made = made_more c.args.rows.now c.loop-row.next c.if-row-leave.next c.args.leave c.args.place n t inside c.loop-row.invariant.made made w.next-is;
             wide = subst (λ (r : List (Vec ℤ Global)). (k : ℕ) → k < length r → length (list_at r k) ≡ length (list_at c.args.rows.now c.args.leave)) (sym w.next-is)
@@ -120,17 +120,17 @@ loop-row-preserved c =
             room = λ width h. subst (λ (r : List (Vec ℤ Global)). (k : ℕ) (d : Vec ℤ Global) → k < length r → width ≤ (get_or r k d).cap) (sym w.next-is) (hold_set width c.loop-row.next n w.index-next-row.result t (c.loop-row.invariant.room width h) refl);
           })
       | else-row-leave w ↦ record {
-          made = made_skip c.args.rows.now c.loop-row.next c.if-row-leave.next c.args.leave c.args.place n c.loop-row.invariant.made
-              (elim w.else-row-leave.branch [
-                | else-row-leave-via-then-row-leave+else-index-ne0 u ↦
-                    (let first : u.index-rows-row.result.items ≡ list_at c.args.rows.now n = read_shared c.args.rows.now n u.index-rows-row.result u.index-rows-row.result.items nl refl u.index-rows-row.is in
-                    let wide : c.args.place + 2 < length u.index-rows-row.result.items = subst (λ (i : ℕ). c.args.place + 2 < i) (sym (ap length first ∙ c.requires.wide n nl)) c.requires.place in
-                    let f : FitsSigned w128 u.index.result.now = search rules in
-                    λ ne there. there (ap (λ (r : List ℤ). at r (c.args.place + 2)) (sym first) ∙ sym (get_or_read u.index-rows-row.result.items (c.args.place + 2) u.index.result.now wide u.index.ensures (pos 0)) ∙ simp to_z-of_z at (ap (to_z w128) u.if-index-ne0.false)))
-                | else-row-leave-via-else-row-leave u ↦ (λ ne there. ne u.if-row-leave.false)
-              ])
-              w.next-is;
-          wide = subst (λ (r : List (Vec ℤ Global)). (k : ℕ) → k < length r → length (list_at r k) ≡ length (list_at c.args.rows.now c.args.leave)) (sym w.next-is) c.loop-row.invariant.wide;
-          room = λ width h. subst (λ (r : List (Vec ℤ Global)). (k : ℕ) (d : Vec ℤ Global) → k < length r → width ≤ (get_or r k d).cap) (sym w.next-is) (c.loop-row.invariant.room width h);
-        }
+        made = made_skip c.args.rows.now c.loop-row.next c.if-row-leave.next c.args.leave c.args.place n c.loop-row.invariant.made
+            (elim w.else-row-leave.branch [
+              | else-row-leave-via-then-row-leave+else-index-ne0 u ↦
+                  (let first : u.index-rows-row.result.items ≡ list_at c.args.rows.now n = read_shared c.args.rows.now n u.index-rows-row.result u.index-rows-row.result.items nl refl u.index-rows-row.is in
+                  let wide : c.args.place + 2 < length u.index-rows-row.result.items = subst (λ (i : ℕ). c.args.place + 2 < i) (sym (ap length first ∙ c.requires.wide n nl)) c.requires.place in
+                  let f : FitsSigned w128 u.index.result.now = search rules in
+                  λ ne there. there (ap (λ (r : List ℤ). at r (c.args.place + 2)) (sym first) ∙ sym (get_or_read u.index-rows-row.result.items (c.args.place + 2) u.index.result.now wide u.index.ensures (pos 0)) ∙ simp to_z-of_z at (ap (to_z w128) u.if-index-ne0.false)))
+              | else-row-leave-via-else-row-leave u ↦ (λ ne there. ne u.if-row-leave.false)
+            ])
+            w.next-is;
+        wide = subst (λ (r : List (Vec ℤ Global)). (k : ℕ) → k < length r → length (list_at r k) ≡ length (list_at c.args.rows.now c.args.leave)) (sym w.next-is) c.loop-row.invariant.wide;
+        room = λ width h. subst (λ (r : List (Vec ℤ Global)). (k : ℕ) (d : Vec ℤ Global) → k < length r → width ≤ (get_or r k d).cap) (sym w.next-is) (c.loop-row.invariant.room width h);
+      }
     ]

@@ -1,4 +1,4 @@
-use Rattle.std.proofs.Common.{refl, ◌≡◌, ◌≤◌, ◌+◌, ℕ, ℤ, List, Vec, Global, length, ap, sym, subst, ◌∙◌, arith}
+use Rattle.std.proofs.Common.{◌≡◌, ◌≤◌, sym, subst, arith}
 use Rattle.std.specs.Vec.{with_items, vec_capacity}
 use Rattle.std.proofs.lemmas.List.{with_items_is}
 use Rattle.simplex.specs.Tableau.{RowsHold}

@@ -1,6 +1,5 @@
-use Rattle.std.proofs.Common.{refl, ◌≡◌, ◌≢◌, ◌<◌, ◌*ℤ◌, ℕ, ℤ, pos, List, length, slice_index, ap, ap₂, sym, subst, ◌∙◌, arith, FitsSigned, to_z, of_z, to_z-of_z, rules}
+use Rattle.std.proofs.Common.{◌≡◌, ◌≢◌, ◌<◌, ◌*ℤ◌, ℕ, ℤ, List, length, slice_index, ap, sym, subst, ◌∙◌, FitsSigned, to_z-of_z, rules}
 use Rattle.std.specs.Int.{w128}
-use Rattle.simplex.specs.CostForm.{entry}
 use Rattle.simplex.specs.Tableau.{cost_form_of}
 use Rattle.simplex.proofs.ReadAt.{read_primal, read_nothing}
 use Rattle.simplex.proofs.tableau.Tableau.value.Goals as goal
