@@ -44,3 +44,9 @@ returns-clause-run c = run_ends_from c.args.program.now c.args.pivots (cost_form
 
 pub returns-clause-optimum : goal.returns-clause-optimum
 returns-clause-optimum c = λ e. read_optimum c.args.program.now (cost_form_of c.run.new.self) (dictionary c) (c.run.ensures.optimum e)
+
+pub returns-clause-places : goal.returns-clause-places
+returns-clause-places c = (dictionary c).parted.basic_long
+
+pub returns-clause-out_places : goal.returns-clause-out_places
+returns-clause-out_places c = (dictionary c).parted.out_long
