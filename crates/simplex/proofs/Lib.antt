@@ -10,6 +10,7 @@ pub mod Traded
 pub mod Lowest
 pub mod ReadAt
 pub mod Standing
+pub mod There
 pub mod Choice
 pub mod Rows
 pub mod Next

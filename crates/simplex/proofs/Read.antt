@@ -8,7 +8,7 @@ use Rattle.scaled_num.proofs.Ring.{ring, x, ◌⊗◌}
 use Rattle.simplex.specs.declared.Program.{Program}
 use Rattle.simplex.specs.Program.{sum_to, at, row_count, variable_count, cell, gain}
 use Rattle.simplex.specs.Dictionary.{AreParted, number}
-use Rattle.simplex.specs.Reading.{AreRead, IsOptimum}
+use Rattle.simplex.specs.Reading.{IsPrimal, IsDual, AreRead, IsOptimum}
 use Rattle.simplex.specs.CostForm as cost
 use Rattle.simplex.specs.CostForm.{CostForm, row_of, entry, owner, IsRow}
 use Rattle.simplex.specs.CostOptimum as inner
@@ -197,14 +197,18 @@ are_read p d id w =
 
 pub read_optimum : (p : Program) (d : CostForm) → cost.IsDictionary p d
     → ((denominator : ℤ) (values multipliers : ℕ → ℤ) → ArePrimal p d denominator values → AreDual p d multipliers → inner.IsOptimum p (entry d (row_count p) 0) denominator values multipliers)
+    → ((i : ℕ) → i < variable_count p → (num : ℤ) × ((den : ℤ) × IsPrimal (with_goal d) i num den))
+    → ((i : ℕ) → i < row_count p → (num : ℤ) × ((den : ℤ) × IsDual (with_goal d) i num den))
     → IsOptimum p (with_goal d)
-read_optimum p d id holds =
+read_optimum p d id holds values_there multipliers_there =
     let n : ℕ = variable_count p in
     let m : ℕ = row_count p in
     let w : Values p d = there p d id in
     let lead : ℤ = entry d m 0 in
     let o : inner.IsOptimum p lead w.denominator w.values w.multipliers = holds w.denominator w.values w.multipliers w.primal w.dual in
     record {
+      values_there = values_there;
+      multipliers_there = multipliers_there;
       below_x = w.denominator;
       below_y = lead;
       x = w.values;

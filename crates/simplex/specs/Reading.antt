@@ -32,8 +32,10 @@ pub record AreRead (d : Dictionary) (below_x below_y : ℤ) (x y : ℕ → ℤ) 
   pub values : (i : ℕ) (num den : ℤ) → i < length d.out → IsPrimal d i num den → x i *ℤ den ≡ num *ℤ below_x
   pub multipliers : (i : ℕ) (num den : ℤ) → i < length d.basic → IsDual d i num den → y i *ℤ den ≡ num *ℤ below_y
 
--- what is read satisfies the program and its dual, and both have one value
+-- what is read exists, satisfies the program and its dual, and both have one value
 pub record IsOptimum (p : Program) (d : Dictionary) : Type 0 where
+  pub values_there : (i : ℕ) → i < variable_count p → (num : ℤ) × ((den : ℤ) × IsPrimal d i num den)
+  pub multipliers_there : (i : ℕ) → i < row_count p → (num : ℤ) × ((den : ℤ) × IsDual d i num den)
   pub below_x : ℤ
   pub below_y : ℤ
   pub x : ℕ → ℤ

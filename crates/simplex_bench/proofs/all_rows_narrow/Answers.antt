@@ -1,8 +1,6 @@
-use Rattle.std.proofs.Common.{◌≡◌, ◌<◌, ◌+◌, ℕ, ℤ, List, Vec, Global, length, arith, rules, subst, subst₂, ap, ◌∙◌, sym}
-use Rattle.std.proofs.lemmas.List.{get_or_read}
+use Rattle.std.proofs.Common.{ℤ, Vec, Global, arith, rules, subst, ap, ◌∙◌}
 use borrow.Author.Count.{below_more}
 use Rattle.simplex.specs.Program.{AllNarrow}
-use Rattle.simplex.specs.Tableau.{list_at}
 use Rattle.simplex.proofs.Rows.{read_row}
 use Rattle.simplex_bench.proofs.all_rows_narrow.Goals as goal
 

@@ -1,5 +1,4 @@
-use Rattle.std.proofs.Common.{ℕ, ◌<◌, ◌≡◌, ◌≤ℤ◌, pos, length}
-use Rattle.simplex.specs.Program.{at, IsNarrow, AllNarrow}
+use Rattle.std.proofs.Common.{ℕ, ◌<◌, ◌≡◌, length}
 use Rattle.simplex.specs.Tableau.{list_at}
 use Rattle.simplex_bench.proofs.all_wide.Given as goal
 

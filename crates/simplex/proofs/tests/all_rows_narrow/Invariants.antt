@@ -1,5 +1,5 @@
-use Rattle.std.proofs.Common.{ℕ, ◌<◌, ◌≡◌, ◌≤ℤ◌, pos, length}
-use Rattle.simplex.specs.Program.{at, IsNarrow, AllNarrow}
+use Rattle.std.proofs.Common.{ℕ, ◌<◌}
+use Rattle.simplex.specs.Program.{AllNarrow}
 use Rattle.simplex.specs.Tableau.{list_at}
 use Rattle.simplex.proofs.tests.all_rows_narrow.Given as goal
 

@@ -1,4 +1,4 @@
-use Rattle.std.proofs.Common.{◌≡◌, ◌<◌, ◌+◌, ℕ, ℤ, List, Vec, Global, length, arith, rules, subst, ap, ◌∙◌, sym}
+use Rattle.std.proofs.Common.{◌≡◌, ℤ, Vec, Global, length, arith, ap, ◌∙◌, sym}
 use borrow.Author.Count.{below_more}
 use Rattle.simplex.specs.Tableau.{list_at}
 use Rattle.simplex.proofs.Rows.{list_at-is}

@@ -1,6 +1,5 @@
-use Rattle.std.proofs.Common.{ℕ, ◌<◌, ◌≡◌, ◌≤ℤ◌, pos, length}
-use Rattle.simplex.specs.Program.{at, IsNarrow, AllNarrow}
-use Rattle.simplex.specs.Tableau.{list_at}
+use Rattle.std.proofs.Common.{ℕ, ◌<◌, ◌≤ℤ◌, pos}
+use Rattle.simplex.specs.Program.{at}
 use Rattle.simplex.proofs.tests.none_negative.Given as goal
 
 abbrev pub invariant-loop-place : goal.invariant-loop-place

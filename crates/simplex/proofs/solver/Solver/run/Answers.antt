@@ -2,23 +2,27 @@ use Rattle.std.proofs.Common.{◌≡◌, ◌<◌, ◌+◌, ◌^◌, ℕ, ℤ, Ve
 use Rattle.std.proofs.lemmas.List.{length-map}
 use Rattle.simplex.specs.Program.{row_count, variable_count}
 use Rattle.simplex.specs.CostForm.{IsDictionary}
-use Rattle.simplex.specs.Tableau.{cost_form_of}
+use Rattle.simplex.specs.Tableau.{cost_form_of, IsStanding}
 use Rattle.simplex.specs.Solver.{State}
 use Rattle.simplex.proofs.Unique.{Stands-dictionary}
 use Rattle.simplex.proofs.Run.{shaped}
 use Rattle.simplex.proofs.BothRuns.{run_ends_from}
-use Rattle.simplex.proofs.Read.{read_optimum}
+use Rattle.simplex.proofs.There.{optimum_there}
 use Rattle.simplex.proofs.solver.Solver.run.Goals as goal
 
 dictionary : (c : goal.After-run) → IsDictionary c.args.program.now (cost_form_of c.run.new.self)
 dictionary c = Stands-dictionary _ _ _ c.run.ensures.run.stands
 
+standing_of : (c : goal.After-run) → IsStanding (cost_form_of c.run.new.self)
+standing_of c =
+    let few_rows : row_count c.args.program.now < 2 ^ 30 = (let a = c.requires.fits.rows_fit in let b = ap (λ (s : State). s.most_rows) c.self.view_is in let e = c.self.invariant.few_rows in omega arith) in
+    let few_variables : variable_count c.args.program.now < 2 ^ 30 = (let a = c.requires.fits.variables_fit in let b = ap (λ (s : State). s.most_variables) c.self.view_is in let e = c.self.invariant.few_variables in omega arith) in
+    record { p = c.args.program.now; dictionary = dictionary c; shaped = shaped c.args.program.now (cost_form_of c.run.new.self) few_rows few_variables (dictionary c) c.run.ensures.narrow }
+
 pub invariant_of-self : goal.invariant_of-self
 invariant_of-self c =
     let m : ℕ = row_count c.args.program.now in
     let id : IsDictionary c.args.program.now (cost_form_of c.run.new.self) = dictionary c in
-    let few_rows : m < 2 ^ 30 = (let a = c.requires.fits.rows_fit in let b = ap (λ (s : State). s.most_rows) c.self.view_is in let e = c.self.invariant.few_rows in omega arith) in
-    let few_variables : variable_count c.args.program.now < 2 ^ 30 = (let a = c.requires.fits.variables_fit in let b = ap (λ (s : State). s.most_variables) c.self.view_is in let e = c.self.invariant.few_variables in omega arith) in
     let high : length c.run.new.self.rows.items ≡ m + 1 = sym (length-map c.run.new.self.rows.items (λ (v : Vec ℤ Global). v.items)) ∙ id.high in
     let count : c.len.result ≡ m = (let a = c.len.ensures in let b = c.args.program.now.limits.ok.0 in omega arith) in
     record {
@@ -35,7 +39,7 @@ invariant_of-self c =
             each_spare = c.shape.ensures.spare_hold _ _ i.tableau i.each_spare;
             each_spare_next = c.shape.ensures.spare_next_hold _ _ i.tableau i.each_spare_next;
           };
-      standing = λ e. record { p = c.args.program.now; dictionary = id; shaped = shaped c.args.program.now (cost_form_of c.run.new.self) few_rows few_variables id c.run.ensures.narrow };
+      standing = λ e. standing_of c;
       nothing = λ e. absurd (let bad : true ≡ false = e in (cc));
     }
 
@@ -43,7 +47,7 @@ pub returns-clause-run : goal.returns-clause-run
 returns-clause-run c = run_ends_from c.args.program.now c.args.pivots (cost_form_of c.run.new.self) c.run.result c.run.ensures.run
 
 pub returns-clause-optimum : goal.returns-clause-optimum
-returns-clause-optimum c = λ e. read_optimum c.args.program.now (cost_form_of c.run.new.self) (dictionary c) (c.run.ensures.optimum e)
+returns-clause-optimum c = λ e. optimum_there c.args.program.now (cost_form_of c.run.new.self) (dictionary c) (standing_of c) (c.run.ensures.optimum e)
 
 pub returns-clause-places : goal.returns-clause-places
 returns-clause-places c = (dictionary c).parted.basic_long
