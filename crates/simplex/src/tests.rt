@@ -176,6 +176,8 @@ fn a_run_is_optimal_or_spent(rt: HostRuntime) -> Result<(), Fail> {
         optimal.dual.as_slice(),
         [(512, 1), (512, 1), (524288, 1)].as_slice()
     );
+    assert_eq!(rt; optimal.prices.as_slice(), [512, 512, 524288].as_slice());
+    assert_eq!(rt; optimal.goal_lead, 1);
     assert_eq!(rt; optimal.basis.as_slice(), [0, 1, 2].as_slice());
     let spent = run_all(alloc, &mut solver, &program, 1)?.expect(&rt, "it fits");
     assert_eq!(rt; spent.end, End::Spent);
