@@ -206,7 +206,7 @@ fn pivots(solver: &mut Solver, program: &Program) -> u32 {
     400
 }
 
-/// Runs a program ten times, and prints what a run took.
+/// Runs a program twenty times, and prints what the fastest run took.
 fn measure(rt: HostRuntime, kind: &str, program: &Program) -> io::Result<()> {
     if program.limits.len() > 1000 || program.goal.len() > 1000 {
         return Ok(());
@@ -216,14 +216,15 @@ fn measure(rt: HostRuntime, kind: &str, program: &Program) -> io::Result<()> {
     let mut solver = Solver::new(rt.alloc());
     solver.reserve(400, 300)?;
     let made = pivots(&mut solver, program);
-    let start = Instant::now(&rt)?;
-    for _ in 0..10 {
+    let mut took = u128::MAX;
+    for _ in 0..20 {
+        let start = Instant::now(&rt)?;
         let _ = run(&mut solver, program, 400);
+        took = took.min(start.elapsed(&rt)?.as_nanos());
     }
-    let took = start.elapsed(&rt)?.as_nanos() / 10;
     let end = run(&mut solver, program, 400);
     let entries = u128::from(made.max(1)) * (u128::from(rows) + 1) * (u128::from(variables) + 2);
-    let tenths = took * 10 / entries;
+    let tenths = took.saturating_mul(10) / entries;
     let whole = tenths / 10;
     let tenth = tenths % 10;
     let micros = took / 1000;
