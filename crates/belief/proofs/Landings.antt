@@ -75,12 +75,12 @@ next-added ls i old out factor l same inside positive weights limits room so_far
     joined : (z : ℤ) (f m w : ℕ) → z +ℤ pos (f * m) +ℤ pos (f * w) ≡ z +ℤ pos (f * (m + w))
     joined z f m w = omega (arith, ints)
 
-each-filter : {X : Type 0} (P : X → Type 0) (q : X → Bool) (xs : List X) → AllByRecursion P xs → AllByRecursion P (filter q xs)
+pub each-filter : {X : Type 0} (P : X → Type 0) (q : X → Bool) (xs : List X) → AllByRecursion P xs → AllByRecursion P (filter q xs)
 each-filter P q [] h = tt
 each-filter P q (x ∷ xs) h =
     elim (q x) as (λ b. AllByRecursion P (cond b (x ∷ filter q xs) (filter q xs))) [ true ↦ (h.0, each-filter P q xs h.1) | false ↦ each-filter P q xs h.1 ]
 
-sum-filter : {X : Type 0} (f : X → ℕ) (q : X → Bool) (xs : List X) → sum_by f (filter q xs) ≤ sum_by f xs
+pub sum-filter : {X : Type 0} (f : X → ℕ) (q : X → Bool) (xs : List X) → sum_by f (filter q xs) ≤ sum_by f xs
 sum-filter f q [] = omega arith
 sum-filter f q (x ∷ xs) =
     rw (sum_by-cons f x xs) (elim (q x) as (λ b. sum_by f (cond b (x ∷ filter q xs) (filter q xs)) ≤ f x + sum_by f xs) [

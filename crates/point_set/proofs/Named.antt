@@ -1,25 +1,29 @@
 -- Points by number, and what shares bring.
 use Rattle.std.proofs.Common.{◌≡◌, ℕ, zero, suc, ◌+◌, ◌*◌, ◌^◌, ◌<◌, ◌≤◌, Bool, true, false, cond, ◌==◌, ◌&&◌, List, [], ◌∷◌, length, get_or, map, filter, take, refl, ap, arith, sym, subst, ◌∙◌}
 use Rattle.std.specs.Prelude.{ℤ, pos, ◌+ℤ◌, ◌*ℤ◌, ◌≤ℤ◌, unsigned_abs, FitsSigned, sum_by}
+use Rattle.std.proofs.Common.{of_z, to_z}
 use Rattle.std.specs.List.{AllByRecursion}
 use Rattle.std.specs.Int.{w128}
-use Rattle.std.proofs.lemmas.Int.{ints, fits_signed_from_abs}
+use Rattle.std.proofs.lemmas.Int.{ints, fits_signed_from_abs, to_z-of_z}
 use Rattle.std.proofs.lemmas.Nat.{mul-le}
 use Rattle.std.proofs.lemmas.List.{get_or-map}
 use Rattle.std.proofs.lemmas.List.Sums.{sum_by_more}
 use Rattle.scaled_num.specs.Sums.{total}
 use Rattle.scaled_num.proofs.Sums.{each-at, sum_by-map, total-map}
-use Rattle.game_model.specs.Branches.{Branch}
-use Rattle.game_model.specs.Game.{GameData, IsBelief, IsWithin}
+use Rattle.game_model.specs.Branches.{Branch, IsBranch}
+use Rattle.game_model.specs.Numbers.{Numbers}
+use Rattle.game_model.proofs.Pay.{each-from}
+use Rattle.belief.proofs.Landings.{each-filter}
+use Rattle.game_model.specs.Game.{GameData, IsBelief, IsWithin, numbers}
 use Rattle.game_model.proofs.Ceil.{magnitude-is}
 use Rattle.game_model.proofs.Front.{length-map}
 use Rattle.belief.specs.Beliefs.{weight_at}
 use Rattle.belief.proofs.Sums.{magnitude-small, weight-small}
-use Rattle.point_set.specs.Members.{IsAfter, IsNamed, branch_of, brought, counted, data_of, most_points, point_data}
-use Rattle.point_set.specs.Points.{Point, PointFits, Share, most_share, no_point, point_of, points_of, share_of, shared, shares_at}
+use Rattle.point_set.specs.Members.{IsAfter, IsMember, IsNamed, branch_of, brought, counted, data_of, most_points, point_data}
+use Rattle.point_set.specs.Points.{Point, PointFits, Share, SplitHolds, mass, most_share, no_point, point_of, points_of, share_of, shared, shares_at}
 use Rattle.point_set.specs.declared.points.Point.{Point as PointParts}
 use Rattle.point_set.specs.declared.points.Share.{Share as ShareParts}
-use Rattle.point_set.proofs.Shares.{no_share}
+use Rattle.point_set.proofs.Shares.{few-shares, no_share}
 
 pub data-at : (points : List PointParts) (k : ℕ) (x : PointParts) → k < length points → x ≡ get_or points k x → get_or (data_of points) k no_point ≡ point_data x
 data-at points k x l e = get_or-map point_data points k x no_point l ∙ ap point_data (sym e)
@@ -78,3 +82,40 @@ shared-is points p a o t =
     ap (sum_by (λ (share : Share). share.weight * (points share.point).belief t)) (shares-at p.splits.items a o)
     ∙ sum_by-map (λ (share : Share). share.weight * (points share.point).belief t) share_of (map branch_of (filter (IsAfter a o) p.splits.items))
     ∙ sum_by-map (λ (b : Branch). unsigned_abs b.weight * (points b.member).belief t) branch_of (filter (IsAfter a o) p.splits.items)
+
+each-of-map : {X Y : Type 0} (P : Y → Type 0) (f : X → Y) (xs : List X) → AllByRecursion P (map f xs) → AllByRecursion (λ x. P (f x)) xs
+each-of-map P f [] h = tt
+each-of-map P f (x ∷ xs) h = (h.0, each-of-map P f xs h.1)
+
+-- what the shares of a point keep
+pub record SharesFit (points : List PointParts) (xs : List ShareParts) : Type 0 where
+  pub named : AllByRecursion (IsNamed points) xs
+  pub few : length xs ≤ 1024
+  pub weights : AllByRecursion (λ (x : ShareParts). IsWithin (pos 1) most_share x.weight) xs
+
+pub named-all : (g : GameData) (points : List PointParts) (p : PointParts) → IsMember g points p → AllByRecursion (IsNamed points) p.splits.items
+named-all g points p h = each-of-map (λ (b : Branch). b.member < length points) branch_of p.splits.items h.named
+
+pub shares-fit : (g : GameData) (points : List PointParts) (p : PointParts) → IsMember g points p → (a o : ℕ) → SharesFit points (filter (IsAfter a o) p.splits.items)
+shares-fit g points p h a o =
+    let xs : List ShareParts = p.splits.items in
+    let each = each-of-map (IsBranch (numbers g) most_points most_share) branch_of xs h.fits.splits.each in
+    record {
+      named = each-filter (IsNamed points) (IsAfter a o) xs (named-all g points p h);
+      few = few-shares a o most_points xs h.fits.splits.rising (each-from (λ (x : ShareParts). IsBranch (numbers g) most_points most_share (branch_of x)) (λ (x : ShareParts). x.k < most_points) xs (λ x i. i.member) each);
+      weights = each-filter (λ (x : ShareParts). IsWithin (pos 1) most_share x.weight) (IsAfter a o) xs
+      (each-from (λ (x : ShareParts). IsBranch (numbers g) most_points most_share (branch_of x)) (λ (x : ShareParts). IsWithin (pos 1) most_share x.weight) xs (λ x i. i.weight) each);
+    }
+
+-- the test of a split place
+pub split-holds : (g : Numbers) (points : ℕ → Point) (p : PointParts) (a o t : ℕ) (ws : List ShareParts) (x y : ℤ) → ws ≡ filter (IsAfter a o) p.splits.items → x ≡ pos (sum_by (brought points t) ws) →
+    y ≡ pos (mass g (point_of (point_data p)) a o t) → x ≡ y → SplitHolds g points (point_of (point_data p)) a o t
+split-holds g points p a o t ws x y e i j same = shared-is points p a o t ∙ ap (sum_by (brought points t)) (sym e) ∙ ap unsigned_abs (sym i ∙ same ∙ j)
+
+pub split-same : (g : Numbers) (points : ℕ → Point) (p : PointParts) (a o t : ℕ) (ws : List ShareParts) (x y : ℤ) → ws ≡ filter (IsAfter a o) p.splits.items → x ≡ pos (sum_by (brought points t) ws) →
+    y ≡ pos (mass g (point_of (point_data p)) a o t) → SplitHolds g points (point_of (point_data p)) a o t → x ≡ y
+split-same g points p a o t ws x y e i j h = i ∙ ap pos (ap (sum_by (brought points t)) e ∙ sym (shared-is points p a o t) ∙ h) ∙ sym j
+
+-- numbers of the same bits
+pub same-bits : (x y : ℤ) → FitsSigned w128 x → FitsSigned w128 y → of_z w128 x ≡ of_z w128 y → x ≡ y
+same-bits x y fx fy e = sym (to_z-of_z w128 x fx) ∙ ap (to_z w128) e ∙ to_z-of_z w128 y fy
