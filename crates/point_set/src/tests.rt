@@ -73,9 +73,9 @@ fn fault_of(alloc: Global, game: &Game, value: i128, weight: i128) -> Result<Opt
 {
     let point = even_point(alloc, game, value, weight)?;
     let mut set = PointSet::new(alloc, game);
-    if set.push(point).is_err() {
+    let Ok(_) = set.push(point) else {
         return Err(AllocError);
-    }
+    };
     Ok(set.stands(game, 0))
 }
 
