@@ -62,7 +62,12 @@ fn even_point(alloc: Global, game: &Game, value: i128, weight: i128) -> Result<P
 }
 
 /// The fault of a set of that point alone.
-fn fault_of(alloc: Global, game: &Game, value: i128, weight: i128) -> Result<Option<PointFault>, AllocError>
+fn fault_of(
+    alloc: Global,
+    game: &Game,
+    value: i128,
+    weight: i128,
+) -> Result<Option<PointFault>, AllocError>
     requires states { game.now.shape.states ≡ 1 }
     requires own { game.now.shape.own_actions ≡ 2 }
     requires informed { game.now.shape.informed_actions ≡ 2 }

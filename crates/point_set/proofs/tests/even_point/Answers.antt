@@ -1,10 +1,9 @@
-use Rattle.std.proofs.Common.{rules, arith, ◌≡◌, ◌∙◌, ◌<◌, List, subst, sym, ap, refl, length, inl, map, ◌++◌, ◌∷◌, []}
-use Rattle.std.specs.Prelude.{ℤ, ℕ, pos, neg_ℤ, ◌*ℤ◌, FitsSigned}
+use Rattle.std.proofs.Common.{rules, arith, ◌≡◌, ◌∙◌, List, subst, sym, ap, inl, map, ◌++◌, ◌∷◌, []}
+use Rattle.std.specs.Prelude.{ℕ, FitsSigned}
 use Rattle.std.specs.Int.{w128}
-use Rattle.std.proofs.lemmas.Int.{ints, to_z-of_z}
-use Rattle.scaled_num.specs.Sums.{sum_of}
-use Rattle.game_model.specs.Branches.{AreBranches, Branch}
-use Rattle.game_model.specs.Game.{AreCoprime, IsBelief, IsWithin, numbers, span}
+use Rattle.std.proofs.lemmas.Int.{to_z-of_z}
+use Rattle.game_model.specs.Branches.{AreBranches}
+use Rattle.game_model.specs.Game.{AreCoprime, IsBelief, numbers}
 use Rattle.belief.specs.Beliefs.{corner_of}
 use Rattle.belief.specs.Mixes.{AreMixes}
 use Rattle.belief.proofs.Parts.{corner-parts}
