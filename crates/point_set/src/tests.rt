@@ -4,7 +4,7 @@ ghost use Rattle.point_set.specs.Points.{PointFits, most_share};
 ghost use Rattle.std.specs.List.{AllByRecursion};
 ghost use Rattle.std.specs.Prelude.{IfOk, neg_ℤ, pos, ◌<◌, ◌≡◌};
 
-use crate::{Point, PointFault, PointSet, Share};
+use crate::{Point, PointFault, PointSet, PushFault, Share};
 use belief::{Belief, Mixes};
 use game_model::{Game, GameBuilder, GameFault, Shape};
 use std::alloc::{AllocError, Global};
@@ -103,7 +103,7 @@ fn the_even_point_stands_and_others_fail_first_at_action_0(rt: HostRuntime) {
 }
 
 #[test]
-fn a_push_answers_the_number_of_the_point(rt: HostRuntime) {
+fn a_push_answers_numbers_up_to_1023_and_then_full(rt: HostRuntime) {
     let Ok(game) = pennies(rt.alloc()) else {
         panic!(rt; "the game is refused");
     };
@@ -113,12 +113,16 @@ fn a_push_answers_the_number_of_the_point(rt: HostRuntime) {
     assert_eq!(rt; game.observations(), 1);
     assert_eq!(rt; game.span(), 65_536);
     let mut set = PointSet::new(rt.alloc(), &game);
-    for number in 0..3 {
+    for number in 0..1024 {
         let Ok(point) = even_point(rt.alloc(), &game, i128::from(number), 65_536) else {
             panic!(rt; "out of memory");
         };
         assert!(rt; matches!(set.push(point), Ok(k) if k == number));
     }
-    assert_eq!(rt; set.len(), 3);
+    let Ok(point) = even_point(rt.alloc(), &game, 0, 65_536) else {
+        panic!(rt; "out of memory");
+    };
+    assert!(rt; matches!(set.push(point), Err(PushFault::Full)));
+    assert_eq!(rt; set.len(), 1024);
     assert_eq!(rt; set.point(2).value, 2);
 }
