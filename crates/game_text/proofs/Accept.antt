@@ -1,26 +1,25 @@
 -- Accepted lines are texts of games, and texts of games are accepted.
-use Rattle.std.proofs.Common.{◌≡◌, ℕ, zero, suc, ◌+◌, ◌^◌, ◌<◌, ◌≤◌, List, [], ◌∷◌, ◌++◌, reverse, length, map, ℤ, pos, refl, sym, ap, subst, ◌∙◌, arith, append_assoc, inl, inr, ◌⊎◌}
-use Rattle.std.specs.Prelude.{codes, unsigned_abs, neg_ℤ}
+use Rattle.std.proofs.Common.{◌≡◌, ℕ, ◌≤◌, List, [], ◌∷◌, ◌++◌, reverse, length, map, ℤ, pos, refl, sym, ap, subst, ◌∙◌, arith, inl, inr}
+use Rattle.std.specs.Prelude.{neg_ℤ}
 use Rattle.std.specs.Fmt.{signed_decimal}
 use Rattle.std.specs.List.{AllByRecursion}
-use Rattle.std.proofs.lemmas.Int.{ints}
-use Rattle.std.proofs.lemmas.List.{length-reverse}
+use Rattle.std.proofs.lemmas.List.{append_cancel_right, length-reverse}
 use Rattle.text_words.specs.Lines.{Line, lines_of, after_lines}
 use Rattle.text_words.proofs.Printed.{signed_decimal-above}
 use Rattle.text_words.proofs.Whole.{IsWord, IsWritten, lines_text, lines_of-front, lines_of-lines, after_lines-lines}
 use Rattle.game_model.specs.declared.parts.Shape.{Shape}
 use Rattle.game_model.specs.declared.parts.Landing.{Landing}
-use Rattle.game_model.specs.Game.{GameData, IsGame, AreCoprime, IsBelief, IsShape, IsWithin}
+use Rattle.game_model.specs.Game.{GameData, IsGame, IsBelief}
 use Rattle.game_text.specs.declared.fault.Kind.{Kind}
-use Rattle.game_text.specs.Forms.{most_total, most_weight}
+use Rattle.game_text.specs.Forms.{most_total}
 use Rattle.game_text.specs.Text.{scaled, text_of, IsTextOf}
 use Rattle.game_text.specs.Entries.{Entry, Version, Size, Total, Discount, First, Step, Out, End, shape_in}
-use Rattle.game_text.specs.Reading.{Say, Reads, Accepts, Refuses, RefusesAlone, GoesOn}
+use Rattle.game_text.specs.Reading.{Reads, Accepts, Refuses, RefusesAlone, GoesOn}
 use Rattle.game_text.specs.Built.{rewards_in, onto_last, rows_in}
 use Rattle.game_text.proofs.Said.{words_in, name_in, numbers_in, Small, small_within, small_discount, small_weights, small_weight}
 use Rattle.game_text.specs.Forms.{state_at, own_at, informed_at}
-use Rattle.game_text.proofs.Runs.{May, Run, outs, step_of, spelled, Good, Front, say_run, run_say, shape_limits, open_before, open_row, shape_spelled}
-use Rattle.game_text.proofs.Spells.{Whole, Finished, finished, end_run, game_from, game_is, whole_back, game_again, rewards_back, rows_back, map_reverse, each_reverse}
+use Rattle.game_text.proofs.Runs.{May, Run, outs, step_of, spelled, Good, say_run, run_say, shape_limits, open_before, open_row, shape_spelled}
+use Rattle.game_text.proofs.Spells.{Finished, finished, end_run, game_from, game_is, whole_back, game_again, rewards_back, rows_back, map_reverse, each_reverse}
 use Rattle.game_text.proofs.Bytes.{back_text, whole_bytes, lines_back}
 use Rattle.game_text.proofs.Coprime.{Parts, parts, scaled_once}
 use Rattle.game_text.proofs.OneReading.{accepted_once, not_both, refused_once}
@@ -35,10 +34,11 @@ accepted_bytes text count entries rest reads =
     let p = say_run before entries reads.3 in
     let q = lines_of-front text (reverse before) rest reads.1 in
     let counted : length (reverse before) ≡ count = length-reverse before ∙ reads.2 in
-    let words : lines_text (reverse before) ≡ back_text entries = ap (λ (ls : List Line). lines_text (reverse ls)) p.0 ∙ ap lines_text (sym (map_reverse words_in entries)) ∙ lines_back entries in
-    (q.0 ∙ ap (λ (l : List ℕ). l ++ after_lines (length (reverse before)) text) words ∙ ap (λ (n : ℕ). back_text entries ++ after_lines n text) counted,
-     p.1,
-     ap (λ (n : ℕ). lines_of (after_lines n text)) (sym counted) ∙ q.1)
+    let words : lines_text (reverse before) ≡ back_text entries = ap (λ (ls : List Line). lines_text (reverse ls)) p.0 ∙ ap lines_text (sym (map_reverse words_in entries)) ∙ lines_back entries in (
+      q.0 ∙ ap (λ (l : List ℕ). l ++ after_lines (length (reverse before)) text) words ∙ ap (λ (n : ℕ). back_text entries ++ after_lines n text) counted,
+      p.1,
+      ap (λ (n : ℕ). lines_of (after_lines n text)) (sym counted) ∙ q.1,
+    )
 
 -- the game of a finished chain, with these coprime weights
 pub finished_text : (entries : List Entry) (f : Finished entries) (p : Parts f.front.shape.states f.front.first) (rest : List ℕ)
@@ -108,9 +108,10 @@ run_reads entries rest run =
     let lines = reverse (map words_in entries) in
     let written : AllByRecursion IsWritten lines = each_reverse IsWritten (map words_in entries) (words_written entries run) in
     let bytes : lines_text lines ≡ back_text entries = ap lines_text (sym (map_reverse words_in entries)) ∙ lines_back entries in
-    let counted = length-reverse (map words_in entries) in
-    ((map words_in entries, ap (λ (l : List ℕ). lines_of (l ++ rest)) (sym bytes) ∙ lines_of-lines lines rest written, refl, run_say entries run),
-     ap (λ (l : List ℕ). after_lines (length (map words_in entries)) (l ++ rest)) (sym bytes) ∙ ap (λ (n : ℕ). after_lines n (lines_text lines ++ rest)) (sym counted) ∙ after_lines-lines lines rest written)
+    let counted = length-reverse (map words_in entries) in (
+      (map words_in entries, ap (λ (l : List ℕ). lines_of (l ++ rest)) (sym bytes) ∙ lines_of-lines lines rest written, refl, run_say entries run),
+      ap (λ (l : List ℕ). after_lines (length (map words_in entries)) (l ++ rest)) (sym bytes) ∙ ap (λ (n : ℕ). after_lines n (lines_text lines ++ rest)) (sym counted) ∙ after_lines-lines lines rest written,
+    )
 
 -- what a text of a game says
 abbrev pub entries_of : GameData → List ℤ → List Entry
@@ -128,7 +129,7 @@ text_reads g text rest t =
     let entries = entries_of g first in
     let run = end_run g.shape first (rewards_back g) (rows_back g) t.game.shape t.first whole in
     let bytes : back_text (End ∷ entries) ≡ text_of g first =
-        whole_bytes g.shape g.first first (rewards_back g) (rows_back g) whole.good whole.count ∙ ap (λ (x : GameData). text_of x first) (game_again g) in
+    whole_bytes g.shape g.first first (rewards_back g) (rows_back g) whole.good whole.count ∙ ap (λ (x : GameData). text_of x first) (game_again g) in
     let same : text ≡ back_text (End ∷ entries) ++ rest = t.same ∙ ap (λ (l : List ℕ). l ++ rest) (sym bytes) in
     let p = run_reads (End ∷ entries) rest run in
     record {
@@ -204,9 +205,10 @@ texts_are_games text rest g h other t u =
     let b = text_reads h text other u in
     let v = scaled t.times g.first in
     let w = scaled u.times h.first in
-    let same = accepted_once (lines_of text) a.count b.count (entries_of g v) (entries_of h w) (lines_of rest) (lines_of other) a.reads b.reads in
-    (game_from_entries g h v w t.times u.times t.game u.game t.some refl refl (tail_same End End (entries_of g v) (entries_of h w) same.1),
-     sym a.after ∙ ap (λ (n : ℕ). after_lines n text) same.0 ∙ b.after)
+    let same = accepted_once (lines_of text) a.count b.count (entries_of g v) (entries_of h w) (lines_of rest) (lines_of other) a.reads b.reads in (
+      game_from_entries g h v w t.times u.times t.game u.game t.some refl refl (tail_same End End (entries_of g v) (entries_of h w) same.1),
+      sym a.after ∙ ap (λ (n : ℕ). after_lines n text) same.0 ∙ b.after,
+    )
 
 -- what is accepted is not refused, and a text is refused once
 
@@ -238,3 +240,8 @@ pub texts_are_read : (text rest : List ℕ) (g : GameData) → IsTextOf g text r
 texts_are_read text rest g t =
     let a = text_reads g text rest t in
     (a.count, entries_of g (scaled t.times g.first), a.reads, a.after)
+
+pub any_rest : (g : GameData) (front rest other : List ℕ) → IsTextOf g (front ++ rest) rest → IsTextOf g (front ++ other) other
+any_rest g front rest other t =
+    let same : front ≡ text_of g (scaled t.times g.first) = append_cancel_right front (text_of g (scaled t.times g.first)) rest t.same in
+    record { game = t.game; times = t.times; some = t.some; first = t.first; same = ap (λ (l : List ℕ). l ++ other) same }

@@ -1,20 +1,18 @@
 -- A builder that takes entries one after another has what they say.
-use Rattle.std.proofs.Common.{◌≡◌, ℕ, zero, suc, ◌+◌, ◌-◌, ◌<◌, ◌≤◌, List, [], ◌∷◌, ◌++◌, reverse, length, map, get_or, set, take, drop, ℤ, pos, refl, sym, ap, subst, ◌∙◌, arith}
+use Rattle.std.proofs.Common.{◌≡◌, ℕ, ◌+◌, ◌-◌, ◌<◌, ◌≤◌, List, [], ◌∷◌, ◌++◌, reverse, length, map, get_or, take, ℤ, refl, sym, ap, subst, ◌∙◌, arith}
 use Rattle.std.specs.Prelude.{slice_set, slice_index_or}
 use mathlib.Core.List.{reverse-cons}
 use Rattle.std.proofs.lemmas.List.{get_or_at, set_at, take_more, take_all, length_push}
-use Rattle.game_model.specs.declared.parts.Shape.{Shape}
 use Rattle.game_model.specs.declared.parts.Landing.{Landing}
 use Rattle.game_model.specs.Game.{GameData}
-use Rattle.game_model.specs.Build.{IsMultiple, with_step, with_landing, last_row}
 use Rattle.game_text.specs.declared.place.RowEntry.{RowEntry}
 use Rattle.game_text.specs.declared.place.RowEntry.TheVariants as row
-use Rattle.game_text.specs.Entries.{Entry, Step, Out, End, shape_in}
+use Rattle.game_text.specs.Entries.{Entry}
 use Rattle.game_text.specs.Place.{entry_in, said}
 use Rattle.game_text.specs.Built.{rewards_in, onto_last, rows_in, IsBuilt, with_entry}
 use Rattle.game_text.proofs.RowSteps.{said-push}
 
-abbrev in_order : List (List Landing) → List (List Landing)
+abbrev pub in_order : List (List Landing) → List (List Landing)
 in_order rows = reverse (map reverse rows)
 
 landed : (rows : List (List Landing)) (l : Landing)
@@ -26,9 +24,9 @@ landed (row ∷ rows) l =
     let counted : length (R ++ reverse row ∷ []) - 1 ≡ length R = omega (arith, length_push R (reverse row)) in
     let at : slice_index_or (R ++ reverse row ∷ []) (length R) [] ≡ reverse row = get_or_at R (reverse row) [] [] (length R) refl in
     let e : slice_set (R ++ reverse row ∷ []) (length R) (slice_index_or (R ++ reverse row ∷ []) (length R) [] ++ l ∷ []) ≡ R ++ reverse (l ∷ row) ∷ [] =
-        ap (λ (x : List Landing). slice_set (R ++ reverse row ∷ []) (length R) (x ++ l ∷ [])) at
-        ∙ set_at R (reverse row) [] (reverse row ++ l ∷ []) (length R) refl
-        ∙ ap (λ (x : List Landing). R ++ x ∷ []) (sym (reverse-cons l row)) in
+    ap (λ (x : List Landing). slice_set (R ++ reverse row ∷ []) (length R) (x ++ l ∷ [])) at
+    ∙ set_at R (reverse row) [] (reverse row ++ l ∷ []) (length R) refl
+    ∙ ap (λ (x : List Landing). R ++ x ∷ []) (sym (reverse-cons l row)) in
     ap (λ (x : List (List Landing)). slice_set x (length x - 1) (slice_index_or x (length x - 1) [] ++ l ∷ [])) cut
     ∙ ap (λ (n : ℕ). slice_set (R ++ reverse row ∷ []) n (slice_index_or (R ++ reverse row ∷ []) n [] ++ l ∷ [])) counted
     ∙ e

@@ -1,6 +1,6 @@
 -- The bytes of a chain of entries are the text of its game.
-use Rattle.std.proofs.Common.{◌≡◌, ℕ, zero, suc, ◌+◌, ◌-◌, ◌*◌, ◌/◌, ◌%◌, ◌<◌, ◌≤◌, List, [], ◌∷◌, ◌++◌, reverse, length, map, get_or, ℤ, pos, refl, sym, ap, subst, ◌∙◌, arith, append_assoc, append-nil, add-one}
-use Rattle.std.specs.Prelude.{flat_map, slice_index_or, codes}
+use Rattle.std.proofs.Common.{◌≡◌, ℕ, zero, suc, ◌+◌, ◌*◌, ◌/◌, ◌%◌, ◌<◌, List, [], ◌∷◌, ◌++◌, reverse, length, map, get_or, ℤ, pos, refl, sym, ap, ◌∙◌, arith, append_assoc, append-nil}
+use Rattle.std.specs.Prelude.{flat_map, codes}
 use Rattle.std.specs.List.{AllByRecursion, range_with_len}
 use mathlib.Core.List.{reverse-cons}
 use Rattle.std.proofs.lemmas.List.{get_or_append_left, get_or_at, length-reverse}
@@ -8,14 +8,14 @@ use Rattle.std.proofs.lemmas.List.Concat.{flat_map-append}
 use Rattle.std.proofs.Math.Arith.{digits_div, digits_mod}
 use Rattle.scaled_num.specs.Sums.{below}
 use Rattle.scaled_num.proofs.Sums.{below-each}
-use Rattle.text_words.specs.Lines.{Line, line_text}
+use Rattle.text_words.specs.Lines.{line_text}
 use Rattle.text_words.proofs.Whole.{lines_text}
 use Rattle.game_model.specs.declared.parts.Shape.{Shape}
 use Rattle.game_model.specs.declared.parts.Landing.{Landing}
-use Rattle.game_model.specs.Game.{GameData, IsShape, triples, triple, reward_at, row_at}
+use Rattle.game_model.specs.Game.{GameData, triples, triple}
 use Rattle.game_text.specs.Forms.{state_at, own_at, informed_at}
 use Rattle.game_text.specs.Text.{line_of, landing_line, step_line, row_text, rows_text, header_text, text_of}
-use Rattle.game_text.specs.Entries.{Entry, Version, Size, Total, Discount, First, Step, Out, End}
+use Rattle.game_text.specs.Entries.{Entry, Version, Size, Total, Discount, First, Out, End}
 use Rattle.game_text.proofs.Said.{words_in}
 use Rattle.game_text.proofs.Runs.{header, step_of, outs, spelled, Good}
 use Rattle.game_text.proofs.Spells.{game_from, same_length, length_map}
@@ -81,10 +81,10 @@ row_before : (shape : Shape) (r : ℤ) (rs : List ℤ) (row : List Landing) (row
     → row_bytes shape (reverse (r ∷ rs)) (rows_in_order (row ∷ rows)) k ≡ row_bytes shape (reverse rs) (rows_in_order rows) k
 row_before shape r rs row rows k lt same =
     let a : get_or (reverse (r ∷ rs)) k (pos 0) ≡ get_or (reverse rs) k (pos 0) =
-        ap (λ (l : List ℤ). get_or l k (pos 0)) (reverse-cons r rs) ∙ get_or_append_left (reverse rs) (r ∷ []) (pos 0) k (omega (arith, length-reverse rs)) in
+    ap (λ (l : List ℤ). get_or l k (pos 0)) (reverse-cons r rs) ∙ get_or_append_left (reverse rs) (r ∷ []) (pos 0) k (omega (arith, length-reverse rs)) in
     let b : get_or (rows_in_order (row ∷ rows)) k [] ≡ get_or (rows_in_order rows) k [] =
-        ap (λ (l : List (List Landing)). get_or l k []) (reverse-cons (reverse row) (map reverse rows))
-        ∙ get_or_append_left (rows_in_order rows) (reverse row ∷ []) [] k (omega (arith, length-reverse (map reverse rows), length_map reverse rows)) in
+    ap (λ (l : List (List Landing)). get_or l k []) (reverse-cons (reverse row) (map reverse rows))
+    ∙ get_or_append_left (rows_in_order rows) (reverse row ∷ []) [] k (omega (arith, length-reverse (map reverse rows), length_map reverse rows)) in
     ap (λ (x : ℤ). step_line (state_at shape k) (own_at shape k) (informed_at shape k) x ++ flat_map landing_line (get_or (rows_in_order (row ∷ rows)) k [])) a
     ∙ ap (λ (x : List Landing). step_line (state_at shape k) (own_at shape k) (informed_at shape k) (get_or (reverse rs) k (pos 0)) ++ flat_map landing_line x) b
 
@@ -94,8 +94,8 @@ row_last shape r rs row rows same =
     let k = length rs in
     let a : get_or (reverse (r ∷ rs)) k (pos 0) ≡ r = ap (λ (l : List ℤ). get_or l k (pos 0)) (reverse-cons r rs) ∙ get_or_at (reverse rs) r [] (pos 0) k (length-reverse rs) in
     let b : get_or (rows_in_order (row ∷ rows)) k [] ≡ reverse row =
-        ap (λ (l : List (List Landing)). get_or l k []) (reverse-cons (reverse row) (map reverse rows))
-        ∙ get_or_at (rows_in_order rows) (reverse row) [] [] k (omega (arith, length-reverse (map reverse rows), length_map reverse rows)) in
+    ap (λ (l : List (List Landing)). get_or l k []) (reverse-cons (reverse row) (map reverse rows))
+    ∙ get_or_at (rows_in_order rows) (reverse row) [] [] k (omega (arith, length-reverse (map reverse rows), length_map reverse rows)) in
     ap (λ (x : ℤ). step_line (state_at shape k) (own_at shape k) (informed_at shape k) x ++ flat_map landing_line (get_or (rows_in_order (row ∷ rows)) k [])) a
     ∙ ap (λ (x : List Landing). step_line (state_at shape k) (own_at shape k) (informed_at shape k) r ++ flat_map landing_line x) b
 

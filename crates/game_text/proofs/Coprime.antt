@@ -1,13 +1,13 @@
 -- Weights are, in one way, a multiple of coprime weights.
-use Rattle.std.proofs.Common.{◌≡◌, ℕ, zero, suc, ◌+◌, ◌-◌, ◌*◌, ◌/◌, ◌%◌, ◌^◌, ◌<◌, ◌≤◌, List, [], ◌∷◌, length, map, ℤ, pos, negsuc, refl, sym, ap, subst, ◌∙◌, arith, inl, inr, ◌⊎◌}
+use Rattle.std.proofs.Common.{◌≡◌, ℕ, zero, suc, ◌-◌, ◌*◌, ◌/◌, ◌%◌, ◌^◌, ◌<◌, ◌≤◌, List, [], ◌∷◌, length, map, ℤ, pos, negsuc, refl, sym, ap, subst, ◌∙◌, arith}
 use Rattle.std.specs.Prelude.{unsigned_abs, ◌*ℤ◌, ◌+ℤ◌, ◌≤ℤ◌}
 use Rattle.std.specs.Int.{◌∣◌}
 use Rattle.std.specs.List.{AllByRecursion}
 use Rattle.std.proofs.lemmas.Int.{ints, unsigned_abs-mul}
-use Rattle.std.proofs.Math.Nat.{dvd_refl, dvd-zero, dvd_trans, dvd-mul_left, dvd-mul_right, dvd-mul_left_of_dvd, dvd-mul_right_of_dvd, dvd-add, dvd-sub, dvd_antisymm, le_of_dvd, mod-lt, div-add-mod, mul_comm, mul_assoc, mul-sub, mul-div_cancel_left, eq-one_of_dvd-one, zero-dvd, div-le_self, mul-le-mul_right, mul-div_cancel', dvd_of_mul-dvd-mul_left, mod-eq-sub-mul-div, mul-dvd-mul_left}
+use Rattle.std.proofs.Math.Nat.{dvd_refl, dvd-zero, dvd_trans, dvd-mul_right, dvd-mul_right_of_dvd, dvd-add, dvd-sub, dvd_antisymm, mod-lt, div-add-mod, mul_assoc, mul-sub, mul-div_cancel_left, eq-one_of_dvd-one, zero-dvd, div-le_self, mul-le-mul_right, mul-div_cancel', dvd_of_mul-dvd-mul_left, mod-eq-sub-mul-div, mul-dvd-mul_left}
 use Rattle.std.proofs.Math.IntN.{pos-*ℤ-pos, pos-*ℤ-negsuc}
 use Rattle.std.specs.Prelude.{neg_ℤ}
-use Rattle.scaled_num.specs.Sums.{sum_of, total}
+use Rattle.scaled_num.specs.Sums.{sum_of}
 use Rattle.scaled_num.proofs.Products.{mul-addℤ}
 use Rattle.game_model.specs.Game.{AreCoprime, IsBelief, IsWithin}
 use Rattle.game_text.specs.Text.{scaled}
@@ -62,11 +62,13 @@ pub common_of : (numbers : List ℤ) → (g : ℕ) × IsCommonOf numbers g
 common_of [] = (0, record { divides = tt; most = λ n d all. subst (λ (x : ℕ). d ∣ x) (omega arith) (dvd-zero d) })
 common_of (x ∷ numbers) =
     let p = common_of numbers in
-    let q = common (unsigned_abs x) p.0 in
-    (q.0, record {
-      divides = (q.1.left, divides_on q.0 p.0 numbers q.1.right p.1.divides);
-      most = λ n d all. q.1.most n d all.0 (p.1.most n d all.1);
-    })
+    let q = common (unsigned_abs x) p.0 in (
+      q.0,
+      record {
+        divides = (q.1.left, divides_on q.0 p.0 numbers q.1.right p.1.divides);
+        most = λ n d all. q.1.most n d all.0 (p.1.most n d all.1);
+      },
+    )
 
 -- what divides each multiple of coprime numbers divides the factor
 coprime_most : (numbers : List ℤ) → AreCoprime numbers → (n d : ℕ) → DividesEach d n numbers → d ∣ n

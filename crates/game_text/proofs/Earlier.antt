@@ -1,5 +1,5 @@
 -- No line before the end is refused as one that follows it.
-use Rattle.std.proofs.Common.{◌≡◌, ℕ, ◌+◌, ◌==◌, Bool, true, false, cond, ◌&&◌, ◌||◌, List, [], ◌∷◌, length, Option, Some, None, Result, Ok, Err, ℤ, pos, refl, sym, ap, ◌∙◌}
+use Rattle.std.proofs.Common.{◌≡◌, ℕ, ◌==◌, Bool, true, false, cond, ◌&&◌, ◌||◌, List, [], ◌∷◌, length, Option, Some, None, Result, Ok, Err, ℤ, pos, ap, ◌∙◌}
 use Rattle.std.specs.Prelude.{neg_ℤ, ◌+ℤ◌, ◌*ℤ◌, ◌^◌, max, unsigned_abs, int_le, int_lt, nat_lt, codes}
 use Rattle.std.specs.List.{list_all}
 use Rattle.std.specs.Option.{ok_or}
@@ -8,13 +8,12 @@ use Rattle.scaled_num.specs.Sums.{sum_of}
 use Rattle.text_words.specs.Lines.{Line}
 use Rattle.text_words.specs.Numbers.{numbers_of}
 use Rattle.game_model.specs.declared.parts.Shape.{Shape}
-use Rattle.game_model.specs.declared.parts.Landing.{Landing}
 use Rattle.game_model.specs.Game.{triples}
 use Rattle.game_text.specs.declared.fault.Kind.{Kind}
 use Rattle.game_text.specs.declared.fault.Kind.TheVariants as kinds
 use Rattle.game_text.specs.Forms.{◌>>=◌, number_at, is_within, limited, within, below_limit, numbers_said, numbers_after, begins, version_line, most_total, most_weight, discount_within, weights_within, total_within, state_at, own_at, informed_at, next_triple, full_row, narrow_reward, later_pair, fits_row}
 use Rattle.game_text.specs.Entries.{Entry, Version, Size, Total, Discount, First, Step, Out, End, shape_in, begun_in, sum_in, entry_of, version_said, size_said, total_said, discount_said, first_said, step_said, out_said, end_said, row_end_said}
-use Rattle.game_text.specs.Reading.{first_of, line_at, IsUnfinished, Refuses}
+use Rattle.game_text.specs.Reading.{line_at, IsUnfinished, Refuses}
 
 abbrev failed : {A : Type 0} → Kind → Result A Kind
 failed kind = Err kind
@@ -215,7 +214,7 @@ never_entry (Out l ∷ b) line on =
     never_choice (begins (codes "out") line) (out_said (shape_in b) (sum_in b +ℤ l.weight) (Some (l.seen, l.to)) line) (row_end_said (shape_in b) (begun_in b) (sum_in b +ℤ l.weight) line)
     (never_out (shape_in b) (sum_in b +ℤ l.weight) (Some (l.seen, l.to)) line)
     (never_choice (begun_in b == triples (shape_in b)) (end_said (shape_in b) (begun_in b) (sum_in b +ℤ l.weight) line) (step_said (shape_in b) (begun_in b) (sum_in b +ℤ l.weight) line)
-     (never_end (shape_in b) (begun_in b) (sum_in b +ℤ l.weight) line) (never_step (shape_in b) (begun_in b) (sum_in b +ℤ l.weight) line))
+    (never_end (shape_in b) (begun_in b) (sum_in b +ℤ l.weight) line) (never_step (shape_in b) (begun_in b) (sum_in b +ℤ l.weight) line))
 never_entry (End ∷ b) line on = absurd on
 
 never_line : (before : List Entry) (lines : List Line) → IsUnfinished before → Never (line_at before lines)

@@ -1,23 +1,22 @@
 -- The game that a reader builds is that of the text.
-use Rattle.std.proofs.Common.{◌≡◌, ℕ, zero, suc, ◌+◌, ◌-◌, ◌<◌, ◌≤◌, List, [], ◌∷◌, ◌++◌, reverse, length, map, drop, ℤ, pos, refl, sym, ap, subst, ◌∙◌, arith, length-append}
+use Rattle.std.proofs.Common.{◌≡◌, ℕ, ◌+◌, ◌-◌, ◌≤◌, List, ◌∷◌, ◌++◌, reverse, length, map, drop, ℤ, sym, ap, subst, ◌∙◌, arith, length-append}
 use Rattle.std.proofs.lemmas.List.{drop_at}
-use Rattle.text_words.specs.Lines.{Line, lines_of, after_lines}
+use Rattle.text_words.specs.Lines.{lines_of, after_lines}
 use Rattle.text_words.proofs.Whole.{after_lines-add}
 use Rattle.game_model.specs.declared.parts.Shape.{Shape}
 use Rattle.game_model.specs.declared.parts.Landing.{Landing}
 use Rattle.game_model.specs.Game.{GameData, IsGame, IsBelief}
-use Rattle.game_model.specs.Build.{IsMultiple}
-use Rattle.game_text.specs.Text.{scaled, IsTextOf}
+use Rattle.game_text.specs.Text.{IsTextOf}
 use Rattle.game_text.specs.Entries.{Entry, End, shape_in}
-use Rattle.game_text.specs.Reading.{Reads, Accepts}
+use Rattle.game_text.specs.Reading.{Reads}
 use Rattle.game_text.specs.Built.{rewards_in, rows_in, IsBuilt, IsEnded, EndsAfter}
-use Rattle.game_text.proofs.Runs.{Run, spelled, Front, shape_spelled}
-use Rattle.game_text.proofs.Spells.{Finished, finished, game_from}
+use Rattle.game_text.proofs.Runs.{shape_spelled}
+use Rattle.game_text.proofs.Spells.{finished, game_from}
 use Rattle.game_text.proofs.Bytes.{back_text}
 use Rattle.game_text.proofs.Coprime.{Parts}
 use Rattle.game_text.proofs.Accept.{accepted_bytes, finished_text, weights_in, weights_spelled, rewards_spelled, rows_spelled}
 
-same_fields : (g : GameData) (shape : Shape) (rs : List ℤ) (rows : List (List Landing)) → g.shape ≡ shape → g.rewards ≡ reverse rs → g.rows ≡ reverse (map reverse rows) → game_from shape g.first rs rows ≡ g
+pub same_fields : (g : GameData) (shape : Shape) (rs : List ℤ) (rows : List (List Landing)) → g.shape ≡ shape → g.rewards ≡ reverse rs → g.rows ≡ reverse (map reverse rows) → game_from shape g.first rs rows ≡ g
 same_fields g shape rs rows p q r =
     ap (λ (x : Shape). game_from x g.first rs rows) (sym p)
     ∙ ap (λ (x : List ℤ). record g { rewards = x; rows = reverse (map reverse rows) }) (sym q)

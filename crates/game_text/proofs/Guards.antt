@@ -1,22 +1,16 @@
 -- What each test of a line says.
-use Rattle.std.proofs.Common.{◌≡◌, ℕ, zero, suc, ◌+◌, ◌*◌, ◌/◌, ◌%◌, ◌^◌, ◌<◌, ◌≤◌, Bool, true, false, cond, ◌&&◌, ◌||◌, eqb, ltb, List, [], ◌∷◌, length, map, Option, Some, None, Result, Ok, Err, ℤ, pos, negsuc, refl, sym, ap, subst, ◌∙◌, arith, inl, inr, ◌⊎◌}
-use Rattle.std.specs.Prelude.{◌≤ℤ◌, ◌<ℤ◌, ◌+ℤ◌, ◌*ℤ◌, neg_ℤ, unsigned_abs, max, int_le, int_lt, codes, ◌==◌, nat_lt, T}
+use Rattle.std.proofs.Common.{◌≡◌, ℕ, ◌^◌, ◌<◌, ◌≤◌, Bool, true, false, cond, ◌&&◌, ◌||◌, eqb, ltb, List, [], ◌∷◌, Option, Some, None, Result, Ok, Err, ℤ, pos, negsuc, refl, sym, ap, subst, ◌∙◌, arith, inl, inr, ◌⊎◌}
+use Rattle.std.specs.Prelude.{◌≤ℤ◌, ◌<ℤ◌, ◌+ℤ◌, ◌*ℤ◌, unsigned_abs, max, int_le, int_lt, ◌==◌, nat_lt, T}
 use Rattle.std.specs.List.{AllByRecursion, list_all}
-use Rattle.std.specs.Option.{ok_or}
-use Rattle.std.specs.Str.{bytes_eq}
-use Rattle.std.specs.Fmt.{signed_decimal}
 use Rattle.std.proofs.lemmas.Int.{ints}
 use Rattle.std.proofs.lemmas.Bool.{eqb-true, ltb-true}
 use Rattle.std.proofs.lemmas.Bool.Decides.{nat_tests}
 use Rattle.scaled_num.specs.Sums.{sum_of}
-use Rattle.text_words.specs.Lines.{Line}
-use Rattle.text_words.specs.Numbers.{numbers_of}
-use Rattle.text_words.proofs.Printed.{numbers_of-printed, numbers_of-prints}
 use Rattle.game_model.specs.declared.parts.Shape.{Shape}
-use Rattle.game_model.specs.Game.{IsWithin, IsBelief, IsNarrow, IsBefore}
+use Rattle.game_model.specs.Game.{IsWithin, IsNarrow}
 use Rattle.game_text.specs.declared.fault.Kind.{Kind}
 use Rattle.game_text.specs.declared.fault.Kind.TheVariants as kinds
-use Rattle.game_text.specs.Forms.{◌>>=◌, is_within, limited, within, below_limit, numbers_said, numbers_after, begins, version_line, most_total, most_weight, discount_within, weights_within, total_within, state_at, own_at, informed_at, next_triple, full_row, narrow_reward, later_pair, fits_row}
+use Rattle.game_text.specs.Forms.{◌>>=◌, is_within, limited, within, below_limit, most_weight, discount_within, weights_within, total_within, state_at, own_at, informed_at, next_triple, full_row, narrow_reward, later_pair, fits_row}
 
 -- results
 

@@ -14,3 +14,5 @@ pub mod Building
 pub mod Final
 pub mod Earlier
 pub mod Refusals
+pub mod Taking
+pub mod Decided

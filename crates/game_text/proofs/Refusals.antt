@@ -1,9 +1,8 @@
 -- What a refusal of a text rules out.
-use Rattle.std.proofs.Common.{◌≡◌, ℕ, ◌+◌, ◌-◌, ◌<◌, ◌≤◌, List, [], ◌∷◌, length, drop, refl, sym, ap, subst, ◌∙◌, arith, inl, inr}
+use Rattle.std.proofs.Common.{ℕ, ◌+◌, ◌<◌, ◌≤◌, List, [], length, drop, refl, ap, subst, arith, inl, inr}
 use Rattle.std.proofs.lemmas.List.{drop_all, length-drop}
 use Rattle.text_words.specs.Lines.{lines_of, after_lines}
 use Rattle.game_model.specs.Game.{GameData}
-use Rattle.game_text.specs.declared.fault.Kind.{Kind}
 use Rattle.game_text.specs.declared.fault.Kind.TheVariants as kinds
 use Rattle.game_text.specs.declared.fault.TextFault.{TextFault}
 use Rattle.game_text.specs.declared.fault.TextFault.TheVariants.{Line, OutOfMemory}

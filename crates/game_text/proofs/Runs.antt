@@ -1,19 +1,17 @@
 -- Entries that may stand in a row, and the rows that they spell.
-use Rattle.std.proofs.Common.{◌≡◌, ℕ, zero, suc, ◌+◌, ◌*◌, ◌/◌, ◌%◌, ◌^◌, ◌<◌, ◌≤◌, Bool, true, false, cond, eqb, List, [], ◌∷◌, ◌++◌, length, map, Option, Some, None, Result, Ok, Err, ℤ, pos, refl, sym, ap, subst, ◌∙◌, arith, inl, inr, ◌⊎◌}
-use Rattle.std.specs.Prelude.{◌≤ℤ◌, ◌+ℤ◌, ◌<ℤ◌, codes, ◌==◌, neg_ℤ}
+use Rattle.std.proofs.Common.{◌≡◌, ℕ, ◌*◌, ◌/◌, ◌<◌, Bool, true, false, cond, eqb, List, [], ◌∷◌, length, map, Option, Some, None, Ok, ℤ, pos, refl, sym, ap, subst, ◌∙◌, arith, inl, inr, ◌⊎◌}
+use Rattle.std.specs.Prelude.{◌≤ℤ◌, ◌+ℤ◌, codes}
 use Rattle.std.specs.List.{AllByRecursion}
 use Rattle.std.proofs.lemmas.Int.{ints}
 use Rattle.std.proofs.lemmas.Bool.{eqb-true}
 use Rattle.std.proofs.lemmas.Bool.Decides.{nat_tests}
 use Rattle.std.proofs.Math.Nat.{div-lt_iff_lt-mul}
-use Rattle.scaled_num.specs.Sums.{sum_of, total}
+use Rattle.scaled_num.specs.Sums.{total}
 use Rattle.text_words.specs.Lines.{Line}
 use Rattle.game_model.specs.declared.parts.Shape.{Shape}
 use Rattle.game_model.specs.declared.parts.Landing.{Landing}
 use Rattle.game_model.specs.Game.{IsWithin, IsBelief, IsNarrow, IsShape, IsBefore, IsLanding, IsRewardInRange, triples, row_sum}
-use Rattle.game_text.specs.declared.fault.Kind.{Kind}
-use Rattle.game_text.specs.declared.fault.Kind.TheVariants as kinds
-use Rattle.game_text.specs.Forms.{begins, most_total, most_weight, state_at, own_at, informed_at}
+use Rattle.game_text.specs.Forms.{begins, most_total, state_at, own_at, informed_at}
 use Rattle.game_text.specs.Entries.{Entry, Version, Size, Total, Discount, First, Step, Out, End, shape_in, begun_in, sum_in, pair_in, entry_of, row_end_said, out_said, step_said, end_said}
 use Rattle.game_text.specs.Place.{IsOpen}
 use Rattle.game_text.specs.Reading.{Say}
@@ -51,7 +49,7 @@ Told before line entry = (line ≡ words_in entry) × May before entry
 
 told_row : (l : Landing) (b : List Entry) (line : Line) (e : Entry) (out last : Bool) → eqb (begun_in b) (triples (shape_in b)) ≡ last
     → cond out (out_said (shape_in b) (sum_in b +ℤ l.weight) (Some (l.seen, l.to)) line)
-        (cond last (end_said (shape_in b) (begun_in b) (sum_in b +ℤ l.weight) line) (step_said (shape_in b) (begun_in b) (sum_in b +ℤ l.weight) line)) ≡ Ok e
+    (cond last (end_said (shape_in b) (begun_in b) (sum_in b +ℤ l.weight) line) (step_said (shape_in b) (begun_in b) (sum_in b +ℤ l.weight) line)) ≡ Ok e
     → Told (Out l ∷ b) line e
 told_row l b line e true last same h =
     let p = out-ok (shape_in b) (sum_in b +ℤ l.weight) (Some (l.seen, l.to)) line e h in
@@ -183,7 +181,7 @@ rows_full shape first (r ∷ rs) (row ∷ rows) good (inl none) = absurd (omega 
 rows_full shape first (r ∷ rs) (row ∷ rows) good (inr full) =
     (sym (sum_outs row (state_at shape (length rs)) (own_at shape (length rs)) (informed_at shape (length rs)) r (spelled shape first rs rows)) ∙ full, good.3)
 
-step_front : (shape : Shape) (first rs : List ℤ) (rows : List (List Landing)) (s a c : ℕ) (reward : ℤ) → IsShape shape → Good shape rs rows
+pub step_front : (shape : Shape) (first rs : List ℤ) (rows : List (List Landing)) (s a c : ℕ) (reward : ℤ) → IsShape shape → Good shape rs rows
     → StepFits shape (length rs) (sum_in (spelled shape first rs rows)) s a c reward → StepFront shape rs rows s a c reward
 step_front shape first rs rows s a c reward limits good fits = record {
   entry = same_step s a c (state_at shape (length rs)) (own_at shape (length rs)) (informed_at shape (length rs)) reward fits.next_state fits.next_own fits.next_informed;
@@ -195,6 +193,10 @@ step_front shape first rs rows s a c reward limits good fits = record {
 
 pub record OutFront (shape : Shape) (rs : List ℤ) (rows : List (List Landing)) (l : Landing) (first : List ℤ) : Type 0 where
   pub more : List (List Landing)
+  pub row : List Landing
+  pub rest : List (List Landing)
+  pub before : rows ≡ row ∷ rest
+  pub after : more ≡ (l ∷ row) ∷ rest
   pub entry : Out l ∷ spelled shape first rs rows ≡ spelled shape first rs more
   pub good : Good shape rs more
 
@@ -212,7 +214,7 @@ no_row shape first (inr p) = first_out p.0 p.1 first (Discount shape.discount.0 
     first_out : (l : Landing) (b : List Entry) (w : List ℤ) (d : List Entry) → First w ∷ d ≡ Out l ∷ b → ⊥
     first_out l b w d e = cc
 
-out_front : (shape : Shape) (first rs : List ℤ) (rows : List (List Landing)) (l : Landing) → Good shape rs rows
+pub out_front : (shape : Shape) (first rs : List ℤ) (rows : List (List Landing)) (l : Landing) → Good shape rs rows
     → (IsStep (spelled shape first rs rows) ⊎ IsOut (spelled shape first rs rows))
     → OutFits shape (sum_in (spelled shape first rs rows)) (pair_in (spelled shape first rs rows)) l → OutFront shape rs rows l first
 out_front shape first [] [] l good on fits = absurd (no_row shape first on)
@@ -224,6 +226,10 @@ out_front shape first (r ∷ rs) (row ∷ rows) l good on fits =
     let pair = pair_outs row (state_at shape (length rs)) (own_at shape (length rs)) (informed_at shape (length rs)) r b in
     record {
       more = (l ∷ row) ∷ rows;
+      row = row;
+      rest = rows;
+      before = refl;
+      after = refl;
       entry = refl;
       good = (good.0, good.1, (record { seen = fits.seen; to = fits.to; weight = fits.weight }, after_head row l (subst (λ (p : Option (ℕ × ℕ)). IsAfter p l.seen l.to) pair fits.after), omega (arith, ints, sum, fits.room), good.2), good.3, good.4);
     }
@@ -267,7 +273,7 @@ header_from w b p q t s a c o e sizes total discount belief = record {
   belief = subst (λ (x : List Entry). IsBelief (shape_in x).states w) e belief;
 }
 
-header_front : (w : List ℤ) (b : List Entry) → Run (First w ∷ b) → HeaderFront w b
+pub header_front : (w : List ℤ) (b : List Entry) → Run (First w ∷ b) → HeaderFront w b
 header_front w b run =
     let m = run.0 in
     let r : Run (Discount m.0 m.1 ∷ m.2) = subst Run m.3 run.1 in
@@ -280,7 +286,7 @@ front_first w b run =
     let h = header_front w b run in
     record { shape = h.shape; first = w; rs = []; rows = []; same = h.same; limits = h.limits; belief = h.belief; good = tt }
 
-step_fits : (b : List Entry) (f : Front b) (s a c : ℕ) (r : ℤ) → StepFits (shape_in b) (begun_in b) (sum_in b) s a c r → StepFits f.shape (length f.rs) (sum_in (spelled f.shape f.first f.rs f.rows)) s a c r
+pub step_fits : (b : List Entry) (f : Front b) (s a c : ℕ) (r : ℤ) → StepFits (shape_in b) (begun_in b) (sum_in b) s a c r → StepFits f.shape (length f.rs) (sum_in (spelled f.shape f.first f.rs f.rows)) s a c r
 step_fits b f s a c r fits =
     let e = subst (λ (x : List Entry). StepFits (shape_in x) (begun_in x) (sum_in x) s a c r) f.same fits in
     let g = subst (λ (x : Shape). StepFits x (begun_in (spelled f.shape f.first f.rs f.rows)) (sum_in (spelled f.shape f.first f.rs f.rows)) s a c r) (shape_spelled f.shape f.first f.rs f.rows) e in
@@ -300,7 +306,7 @@ front_step s a c r b f may =
       good = p.good;
     }
 
-out_fits : (b : List Entry) (f : Front b) (l : Landing) → OutFits (shape_in b) (sum_in b) (pair_in b) l → OutFits f.shape (sum_in (spelled f.shape f.first f.rs f.rows)) (pair_in (spelled f.shape f.first f.rs f.rows)) l
+pub out_fits : (b : List Entry) (f : Front b) (l : Landing) → OutFits (shape_in b) (sum_in b) (pair_in b) l → OutFits f.shape (sum_in (spelled f.shape f.first f.rs f.rows)) (pair_in (spelled f.shape f.first f.rs f.rows)) l
 out_fits b f l fits =
     let e = subst (λ (x : List Entry). OutFits (shape_in x) (sum_in x) (pair_in x) l) f.same fits in
     subst (λ (x : Shape). OutFits x (sum_in (spelled f.shape f.first f.rs f.rows)) (pair_in (spelled f.shape f.first f.rs f.rows)) l) (shape_spelled f.shape f.first f.rs f.rows) e

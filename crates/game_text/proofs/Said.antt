@@ -1,5 +1,5 @@
 -- What a line says, and the words of a line that says it.
-use Rattle.std.proofs.Common.{◌≡◌, ℕ, zero, suc, ◌+◌, ◌*◌, ◌^◌, ◌<◌, ◌≤◌, Bool, true, false, cond, ◌&&◌, eqb, List, [], ◌∷◌, length, map, Option, Some, None, Result, Ok, Err, ℤ, pos, negsuc, refl, sym, ap, subst, ◌∙◌, arith, inl, inr, ◌⊎◌}
+use Rattle.std.proofs.Common.{◌≡◌, ℕ, ◌^◌, ◌<◌, ◌≤◌, Bool, true, false, cond, ◌&&◌, eqb, List, [], ◌∷◌, length, map, Option, Some, None, Result, Ok, Err, ℤ, pos, negsuc, refl, sym, ap, subst, ◌∙◌, arith, inl, inr, ◌⊎◌}
 use Rattle.std.proofs.lemmas.List.{length-map}
 use Rattle.std.proofs.lemmas.Slice.Eq.{bytes_eq-Decides}
 use Rattle.std.proofs.lemmas.Fmt.{decimal_digit}
@@ -11,16 +11,15 @@ use Rattle.std.specs.Fmt.{signed_decimal}
 use Rattle.std.proofs.lemmas.Int.{ints}
 use Rattle.std.proofs.lemmas.Bool.{eqb-true}
 use Rattle.std.proofs.lemmas.Bool.Decides.{nat_tests}
-use Rattle.scaled_num.specs.Sums.{sum_of}
 use Rattle.text_words.specs.Lines.{Line}
 use Rattle.text_words.specs.Numbers.{numbers_of}
 use Rattle.text_words.proofs.Printed.{numbers_of-printed, numbers_of-prints}
 use Rattle.game_model.specs.declared.parts.Shape.{Shape}
 use Rattle.game_model.specs.declared.parts.Landing.{Landing}
-use Rattle.game_model.specs.Game.{IsWithin, IsBelief, IsNarrow, IsShape, triples}
+use Rattle.game_model.specs.Game.{IsWithin, IsBelief, IsNarrow, IsShape}
 use Rattle.game_text.specs.declared.fault.Kind.{Kind}
 use Rattle.game_text.specs.declared.fault.Kind.TheVariants as kinds
-use Rattle.game_text.specs.Forms.{◌>>=◌, number_at, limited, within, below_limit, numbers_said, numbers_after, version_line, most_total, most_weight, discount_within, weights_within, total_within, state_at, own_at, informed_at, next_triple, full_row, narrow_reward, later_pair, fits_row}
+use Rattle.game_text.specs.Forms.{number_at, limited, within, below_limit, numbers_said, numbers_after, version_line, most_total, most_weight, discount_within, weights_within, total_within, state_at, own_at, informed_at, next_triple, full_row, narrow_reward, later_pair, fits_row}
 use Rattle.game_text.specs.Entries.{Entry, Version, Size, Total, Discount, First, Step, Out, End, version_said, size_said, total_said, discount_said, first_said, step_said, out_said, end_said}
 use Rattle.game_text.proofs.Guards.{bind_ok, and_true, IsAfter, limited-ok, limited-to, within-ok, within-to, below_limit-ok, below_limit-to, discount_within-ok, discount_within-to, weights_within-ok, weights_within-to, total_within-ok, total_within-to, next_triple-ok, next_triple-to, full_row-ok, full_row-none, full_row-to, narrow_reward-ok, narrow_reward-to, later_pair-ok, later_pair-to, fits_row-ok, fits_row-to}
 
@@ -189,9 +188,15 @@ size-ok line e h =
     let a' = within-ok 1 6 (number_at ns 1) a.0 a.1 in
     let c' = within-ok 1 6 (number_at ns 2) c.0 c.1 in
     let o' = within-ok 1 8 (number_at ns 3) o.0 o.1 in
-    let all = four_are ns (pos s.0) (pos a.0) (pos c.0) (pos o.0) w.1 s'.2 a'.2 c'.2 o'.2 in
-    (s.0, a.0, c.0, o.0, said_is (Size s.0 a.0 c.0 o.0) e o.2, w.0 ∙ ap (λ (xs : List ℤ). codes "size" ∷ map signed_decimal xs) all,
-     record { states = (s'.0, s'.1); own_actions = (a'.0, a'.1); informed_actions = (c'.0, c'.1); observations = (o'.0, o'.1) })
+    let all = four_are ns (pos s.0) (pos a.0) (pos c.0) (pos o.0) w.1 s'.2 a'.2 c'.2 o'.2 in (
+      s.0,
+      a.0,
+      c.0,
+      o.0,
+      said_is (Size s.0 a.0 c.0 o.0) e o.2,
+      w.0 ∙ ap (λ (xs : List ℤ). codes "size" ∷ map signed_decimal xs) all,
+      record { states = (s'.0, s'.1); own_actions = (a'.0, a'.1); informed_actions = (c'.0, c'.1); observations = (o'.0, o'.1) },
+    )
 
 pub size-to : (s a c o : ℕ) → SizeFits s a c o → size_said (words_in (Size s a c o)) ≡ Ok (Size s a c o)
 unfolding size_said
@@ -225,14 +230,19 @@ discount-ok line e h =
     let d = bind_ok (discount_within (number_at ns 0) (number_at ns 1)) _ e p.2 in
     let w = numbers_after-ok (codes "discount") 2 line ns p.1 in
     let d' = discount_within-ok (number_at ns 0) (number_at ns 1) d.0 d.1 in
-    let said : e ≡ Discount d.0.0 d.0.1 = said_is (Discount d.0.0 d.0.1) e d.2 in
-    (number_at ns 0, number_at ns 1, said ∙ ap (λ (x : ℤ × ℤ). Discount x.0 x.1) (sym d'.3), w.0 ∙ ap (λ (xs : List ℤ). codes "discount" ∷ map signed_decimal xs) (two_numbers ns w.1),
-     record { low = d'.0; less = d'.1; high = d'.2 })
+    let said : e ≡ Discount d.0.0 d.0.1 = said_is (Discount d.0.0 d.0.1) e d.2 in (
+      number_at ns 0,
+      number_at ns 1,
+      said ∙ ap (λ (x : ℤ × ℤ). Discount x.0 x.1) (sym d'.3),
+      w.0 ∙ ap (λ (xs : List ℤ). codes "discount" ∷ map signed_decimal xs) (two_numbers ns w.1),
+      record { low = d'.0; less = d'.1; high = d'.2 },
+    )
 
 pub small_discount : (over under : ℤ) → DiscountFits over under → Small over × Small under
-small_discount over under f =
-    (small_within (pos 0) (pos most_weight) over (omega arith) (omega arith) (f.low, omega (arith, ints, f.less, f.high)),
-     small_within (pos 0) (pos most_weight) under (omega arith) (omega arith) (omega (arith, ints, f.low, f.less), f.high))
+small_discount over under f = (
+  small_within (pos 0) (pos most_weight) over (omega arith) (omega arith) (f.low, omega (arith, ints, f.less, f.high)),
+  small_within (pos 0) (pos most_weight) under (omega arith) (omega arith) (omega (arith, ints, f.low, f.less), f.high),
+)
 
 pub discount-to : (over under : ℤ) → DiscountFits over under → discount_said (words_in (Discount over under)) ≡ Ok (Discount over under)
 unfolding discount_said
@@ -301,18 +311,25 @@ step-ok shape begun sum line e h =
     let c' = below_limit-ok shape.informed_actions (number_at ns 2) c.0 c.1 in
     let r' = limited-ok (neg_ℤ (pos most_total)) (pos most_total) (number_at ns 3) r.0 r.1 in
     let n' = next_triple-ok shape begun s.0 a.0 c.0 n.0 n.1 in
-    let all = four_are ns (pos s.0) (pos a.0) (pos c.0) r.0 w.1 s'.1 a'.1 c'.1 r'.1 in
-    (s.0, a.0, c.0, r.0, said_is (Step s.0 a.0 c.0 r.0) e k.2, w.0 ∙ ap (λ (xs : List ℤ). codes "step" ∷ map signed_decimal xs) all, record {
-      state = s'.0;
-      own = a'.0;
-      informed = c'.0;
-      range = r'.0;
-      next_state = n'.0;
-      next_own = n'.1;
-      next_informed = n'.2;
-      full = full_row-ok shape begun sum f.0 f.1;
-      narrow = narrow_reward-ok shape r.0 k.0 k.1;
-    })
+    let all = four_are ns (pos s.0) (pos a.0) (pos c.0) r.0 w.1 s'.1 a'.1 c'.1 r'.1 in (
+      s.0,
+      a.0,
+      c.0,
+      r.0,
+      said_is (Step s.0 a.0 c.0 r.0) e k.2,
+      w.0 ∙ ap (λ (xs : List ℤ). codes "step" ∷ map signed_decimal xs) all,
+      record {
+        state = s'.0;
+        own = a'.0;
+        informed = c'.0;
+        range = r'.0;
+        next_state = n'.0;
+        next_own = n'.1;
+        next_informed = n'.2;
+        full = full_row-ok shape begun sum f.0 f.1;
+        narrow = narrow_reward-ok shape r.0 k.0 k.1;
+      },
+    )
 
 next_is : (shape : Shape) (k s a c : ℕ) → s ≡ state_at shape k → a ≡ own_at shape k → c ≡ informed_at shape k → next_triple shape k s a c ≡ Ok tt
 next_is shape k s a c p q r = rw (p, q, r) (next_triple-to shape k)
@@ -326,10 +343,17 @@ pub step-to : (shape : Shape) (begun : ℕ) (sum : ℤ) (s a c : ℕ) (reward : 
 unfolding step_said
 step-to shape begun sum s a c reward limits f =
     let small : AllByRecursion Small (pos s ∷ pos a ∷ pos c ∷ reward ∷ []) =
-        (omega (arith, f.state, limits.states), (omega (arith, f.own, limits.own_actions), (omega (arith, f.informed, limits.informed_actions), (small_within (neg_ℤ (pos most_total)) (pos most_total) reward (omega arith) (omega arith) f.range, tt)))) in
+    (omega (arith, f.state, limits.states), (omega (arith, f.own, limits.own_actions), (omega (arith, f.informed, limits.informed_actions), (small_within (neg_ℤ (pos most_total)) (pos most_total) reward (omega arith) (omega arith) f.range, tt)))) in
     rw (numbers_after-to (codes "step") (pos s ∷ pos a ∷ pos c ∷ reward ∷ []) small)
-    (rw (below_limit-to shape.states s f.state, below_limit-to shape.own_actions a f.own, below_limit-to shape.informed_actions c f.informed, limited-to (neg_ℤ (pos most_total)) (pos most_total) reward f.range,
-      next_is shape begun s a c f.next_state f.next_own f.next_informed, full_is shape begun sum f.full, narrow_reward-to shape reward f.narrow) refl)
+    (rw (
+      below_limit-to shape.states s f.state,
+      below_limit-to shape.own_actions a f.own,
+      below_limit-to shape.informed_actions c f.informed,
+      limited-to (neg_ℤ (pos most_total)) (pos most_total) reward f.range,
+      next_is shape begun s a c f.next_state f.next_own f.next_informed,
+      full_is shape begun sum f.full,
+      narrow_reward-to shape reward f.narrow,
+    ) refl)
 
 pub out-ok : (shape : Shape) (sum : ℤ) (pair : Option (ℕ × ℕ)) (line : Line) (e : Entry) → out_said shape sum pair line ≡ Ok e
     → (l : Landing) × (e ≡ Out l) × (line ≡ words_in (Out l)) × OutFits shape sum pair l
@@ -346,14 +370,18 @@ out-ok shape sum pair line e h =
     let o' = below_limit-ok shape.observations (number_at ns 0) o.0 o.1 in
     let t' = below_limit-ok shape.states (number_at ns 1) t.0 t.1 in
     let m' = limited-ok (pos 1) shape.row_total (number_at ns 2) m.0 m.1 in
-    let all = three_are ns (pos o.0) (pos t.0) m.0 w.1 o'.1 t'.1 m'.1 in
-    (record { seen = o.0; to = t.0; weight = m.0 }, said_is (Out (record { seen = o.0; to = t.0; weight = m.0 })) e f.2, w.0 ∙ ap (λ (xs : List ℤ). codes "out" ∷ map signed_decimal xs) all, record {
-      seen = o'.0;
-      to = t'.0;
-      weight = m'.0;
-      after = later_pair-ok pair o.0 t.0 l.0 l.1;
-      room = fits_row-ok shape sum m.0 f.0 f.1;
-    })
+    let all = three_are ns (pos o.0) (pos t.0) m.0 w.1 o'.1 t'.1 m'.1 in (
+      record { seen = o.0; to = t.0; weight = m.0 },
+      said_is (Out (record { seen = o.0; to = t.0; weight = m.0 })) e f.2,
+      w.0 ∙ ap (λ (xs : List ℤ). codes "out" ∷ map signed_decimal xs) all,
+      record {
+        seen = o'.0;
+        to = t'.0;
+        weight = m'.0;
+        after = later_pair-ok pair o.0 t.0 l.0 l.1;
+        room = fits_row-ok shape sum m.0 f.0 f.1;
+      },
+    )
 
 pub small_weight : (shape : Shape) (x : ℤ) → IsShape shape → IsWithin (pos 1) shape.row_total x → Small x
 small_weight shape x limits h = small_within (pos 1) (pos most_total) x (omega arith) (omega arith) (h.0, omega (arith, ints, h.1, limits.row_total.1))

@@ -1,31 +1,37 @@
 -- Rows that keep the limits are spelled by a chain of entries, and back.
-use Rattle.std.proofs.Common.{◌≡◌, ℕ, zero, suc, ◌+◌, ◌*◌, ◌/◌, ◌%◌, ◌^◌, ◌<◌, ◌≤◌, List, [], ◌∷◌, ◌++◌, reverse, length, map, Option, Some, None, ℤ, pos, negsuc, refl, sym, ap, subst, ◌∙◌, arith, inl, inr, ◌⊎◌}
-use Rattle.std.specs.Prelude.{◌≤ℤ◌, ◌+ℤ◌, ◌<ℤ◌, neg_ℤ}
+use Rattle.std.proofs.Common.{◌≡◌, ℕ, zero, suc, ◌*◌, ◌/◌, ◌<◌, ◌≤◌, List, [], ◌∷◌, ◌++◌, reverse, length, map, Option, ℤ, pos, refl, sym, ap, subst, ◌∙◌, arith, inl, inr, ◌⊎◌}
+use Rattle.std.specs.Prelude.{◌≤ℤ◌, ◌+ℤ◌}
 use Rattle.std.specs.List.{AllByRecursion}
 use mathlib.Core.List.{reverse-cons}
-use Rattle.std.proofs.lemmas.List.{reverse-reverse, length-reverse, length_push}
+use Rattle.std.proofs.lemmas.List.{reverse-reverse, length-reverse}
 use Rattle.std.proofs.lemmas.Int.{ints}
 use Rattle.std.proofs.Math.Nat.{div-lt_iff_lt-mul, mod-lt}
-use Rattle.scaled_num.specs.Sums.{sum_of, total}
 use Rattle.scaled_num.proofs.Sums.{each-append, total-append}
 use Rattle.game_model.specs.declared.parts.Shape.{Shape}
 use Rattle.game_model.specs.declared.parts.Landing.{Landing}
-use Rattle.game_model.specs.Game.{GameData, IsGame, AreCoprime, IsWithin, IsBelief, IsNarrow, IsShape, IsBefore, IsRising, IsLanding, IsRow, IsRewardInRange, triples, row_sum}
-use Rattle.game_text.specs.Forms.{most_total, most_weight, state_at, own_at, informed_at}
-use Rattle.game_text.specs.Entries.{Entry, Version, Size, Total, Discount, First, Step, Out, End, shape_in, begun_in, sum_in, pair_in}
+use Rattle.game_model.specs.Game.{GameData, IsGame, AreCoprime, IsBelief, IsShape, IsBefore, IsRising, IsLanding, IsRow, triples, row_sum}
+use Rattle.game_text.specs.Forms.{state_at, own_at, informed_at}
+use Rattle.game_text.specs.Entries.{Entry, Version, Size, Total, Discount, Step, Out, End, shape_in, begun_in, sum_in}
 use Rattle.game_text.proofs.Guards.{IsAfter}
-use Rattle.game_text.proofs.Said.{SizeFits, DiscountFits, StepFits, OutFits}
+use Rattle.game_text.proofs.Said.{StepFits, OutFits}
 use Rattle.game_text.proofs.Runs.{IsFirst, IsStep, IsOut, May, Run, header, step_of, outs, spelled, AfterHead, IsBack, IsFullBack, RewardFits, Good, head_pair, shape_outs, sum_outs, pair_outs, shape_spelled, begun_spelled, Front, front, rows_full, open_before}
 
 -- from rows to a chain
 
 header_run : (shape : Shape) (first : List ℤ) → IsShape shape → IsBelief shape.states first → Run (header shape first)
-header_run shape first limits belief =
-    ((shape.discount.0, shape.discount.1, Total shape.row_total ∷ Size shape.states shape.own_actions shape.informed_actions shape.observations ∷ Version ∷ [], refl, belief),
-    ((shape.row_total, Size shape.states shape.own_actions shape.informed_actions shape.observations ∷ Version ∷ [], refl, record { low = limits.discount.0; less = limits.discount.1; high = limits.discount.2 }),
-    ((shape.states, shape.own_actions, shape.informed_actions, shape.observations, Version ∷ [], refl, limits.row_total),
-    (([], refl, record { states = limits.states; own_actions = limits.own_actions; informed_actions = limits.informed_actions; observations = limits.observations }),
-    (refl, tt)))))
+header_run shape first limits belief = (
+  (shape.discount.0, shape.discount.1, Total shape.row_total ∷ Size shape.states shape.own_actions shape.informed_actions shape.observations ∷ Version ∷ [], refl, belief),
+  (
+    (shape.row_total, Size shape.states shape.own_actions shape.informed_actions shape.observations ∷ Version ∷ [], refl, record { low = limits.discount.0; less = limits.discount.1; high = limits.discount.2 }),
+    (
+      (shape.states, shape.own_actions, shape.informed_actions, shape.observations, Version ∷ [], refl, limits.row_total),
+      (
+        ([], refl, record { states = limits.states; own_actions = limits.own_actions; informed_actions = limits.informed_actions; observations = limits.observations }),
+        (refl, tt),
+      ),
+    ),
+  ),
+)
 
 head_after : (row : List Landing) (l : Landing) → AfterHead row l → IsAfter (head_pair row) l.seen l.to
 head_after [] l h = tt

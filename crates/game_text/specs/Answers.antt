@@ -1,5 +1,5 @@
 -- What a refusal of a text says.
-use Rattle.std.specs.Prelude.{◌≡◌, ◌≢◌, ℕ, List, [], ⊤}
+use Rattle.std.specs.Prelude.{◌≢◌, ℕ, List, [], ⊤}
 use Rattle.text_words.specs.Lines.{Line as Words, lines_of}
 use Rattle.game_model.specs.Game.{GameData}
 use Rattle.game_text.specs.declared.fault.Kind.TheVariants as kinds

@@ -1,9 +1,9 @@
 -- The game that entries say, as a builder takes them.
-use Rattle.std.specs.Prelude.{◌≡◌, ℕ, List, [], ◌∷◌, ◌++◌, map, reverse, ℤ, ⊤}
+use Rattle.std.specs.Prelude.{◌≡◌, ℕ, List, [], ◌∷◌, map, reverse, ℤ}
 use Rattle.text_words.specs.Lines.{Line, lines_of, after_lines}
 use Rattle.game_model.specs.declared.parts.Landing.{Landing}
-use Rattle.game_model.specs.Game.{GameData}
-use Rattle.game_model.specs.Build.{IsMultiple, with_step, with_landing}
+use Rattle.game_model.specs.Game.{GameData, IsRewardInRange, IsNarrow, IsLanding}
+use Rattle.game_model.specs.Build.{HasRoom, HasWeightLeft, IsBegun, IsLastRowFull, IsMultiple, IsNext, last_row, with_landing, with_step}
 use Rattle.game_text.specs.declared.place.RowEntry.{RowEntry}
 use Rattle.game_text.specs.declared.place.RowEntry.TheVariants as row
 use Rattle.game_text.specs.Entries.{Entry, Step, Out, End, shape_in}
@@ -45,6 +45,12 @@ abbrev pub with_entry : GameData → RowEntry → GameData
 with_entry g (row.Step s a c reward) = with_step g reward
 with_entry g (row.Out landing) = with_landing g landing
 with_entry g row.End = g
+
+-- the game in the making takes one more entry
+abbrev pub Takes : GameData → RowEntry → Type 0
+Takes g (row.Step s a c reward) = HasRoom g × IsRewardInRange reward × IsLastRowFull g × IsNarrow g.shape reward
+Takes g (row.Out landing) = IsBegun g × IsLanding g.shape landing × IsNext (last_row g) landing × HasWeightLeft g landing.weight
+Takes g row.End = Unit {0}
 
 -- so many lines of the text are accepted, and these bytes are left
 abbrev pub EndsAfter : List ℕ → ℕ → List ℕ → Type 0

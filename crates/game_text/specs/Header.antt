@@ -1,4 +1,4 @@
-use Rattle.std.specs.Prelude.{ℕ, ◌≤◌, List, [], ◌∷◌}
+use Rattle.std.specs.Prelude.{◌≤◌, List, [], ◌∷◌}
 use Rattle.game_text.specs.declared.header.Header.{Header}
 use Rattle.game_text.specs.declared.header.Sizes.{Sizes}
 use Rattle.game_text.specs.Entries.{Entry, Version, Size, Total, Discount, First}

@@ -1,5 +1,5 @@
 -- What makes acceptance and refusal exact.
-use Rattle.std.specs.Prelude.{◌≡◌, ℕ, List, []}
+use Rattle.std.specs.Prelude.{◌≡◌, ◌⊎◌, ℕ, List, [], ◌++◌}
 use Rattle.text_words.specs.Lines.{Line, lines_of, after_lines}
 use Rattle.game_model.specs.Game.{GameData}
 use Rattle.game_text.specs.declared.fault.Kind.{Kind}
@@ -40,3 +40,19 @@ abbrev pub WholeTextsAreNotRefused : Type 0
 WholeTextsAreNotRefused =
     (text : List ℕ) (g : GameData) (number : ℕ) (kind : Kind) →
     IsTextOf g text [] → RefusesAlone text number kind → ⊥
+
+-- a text of a game at the front of bytes is one whatever bytes follow it
+abbrev pub AnyRest : Type 0
+AnyRest =
+    (g : GameData) (front rest other : List ℕ) →
+    IsTextOf g (front ++ rest) rest → IsTextOf g (front ++ other) other
+
+-- bytes begin with a text of a game, or are refused
+abbrev pub Decided : Type 0
+Decided =
+    (text : List ℕ) →
+    ((g : GameData) × (rest : List ℕ) × IsTextOf g text rest) ⊎ ((number : ℕ) × (kind : Kind) × Refuses (lines_of text) number kind)
+
+-- bytes are a text of a game, or are refused alone
+abbrev pub DecidedAlone : Type 0
+DecidedAlone = (text : List ℕ) → ((g : GameData) × IsTextOf g text []) ⊎ ((number : ℕ) × (kind : Kind) × RefusesAlone text number kind)

@@ -1,5 +1,5 @@
 -- Where the reader stands in the rows, and what it reads there.
-use Rattle.std.specs.Prelude.{◌≡◌, ℕ, ◌+◌, ◌<◌, ◌≤◌, ◌^◌, List, [], ◌∷◌, Option, Some, None, Result, Ok, Err, ℤ, pos, ◌+ℤ◌, ◌≤ℤ◌, if◌then◌else◌, codes, ⊤}
+use Rattle.std.specs.Prelude.{ℕ, ◌+◌, List, [], ◌∷◌, Option, Some, None, Result, Ok, pos, ◌+ℤ◌, ◌≤ℤ◌, if◌then◌else◌, codes, ⊤}
 use Rattle.text_words.specs.Lines.{Line}
 use Rattle.game_model.specs.Game.{IsShape}
 use Rattle.game_text.specs.declared.fault.Kind.{Kind}

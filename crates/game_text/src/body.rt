@@ -56,6 +56,11 @@ fn place_after(place: Place, entry: RowEntry) -> Place
     }
 }
 
+/// How many line feeds there are: at least as many as lines are read.
+fn line_feeds(text: &[u8]) -> usize {
+    text.iter().filter(|b| **b == b'\n').count()
+}
+
 /// Reads the rows and the `end` line, from the place behind a header of five lines.
 pub fn read_rows(
     alloc: Global,
@@ -73,7 +78,9 @@ pub fn read_rows(
     ensures refused { (lines : List Line) (before : List Entry) → Reads lines 5 before (lines_of text.now) → start ≡ place_of before → IsOpen before
         → IfErr result (IsFaultOf lines) }
 {
-    let mut entries = Vec::new(alloc);
+    let Ok(mut entries) = Vec::with_capacity(alloc, line_feeds(text)) else {
+        return Err(TextFault::OutOfMemory);
+    };
     let mut place = start;
     let mut rest = text;
     let mut line: u32 = 5;

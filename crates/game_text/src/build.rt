@@ -1,6 +1,6 @@
 ghost use Rattle.std.specs.Prelude.{◌≡◌, IfErr, IfOk, OnOk};
 ghost use Rattle.game_text.specs.declared.fault.TextFault.TheVariants as texts;
-ghost use Rattle.game_text.specs.Built.{IsBuilt, IsSaid, IsEnded, with_entry};
+ghost use Rattle.game_text.specs.Built.{IsBuilt, IsEnded, IsSaid, Takes, with_entry};
 ghost use Rattle.game_text.specs.Header.{said_by};
 ghost use Rattle.game_text.specs.Place.{said};
 
@@ -10,9 +10,20 @@ use crate::place::RowEntry;
 use game_model::{Game, GameBuilder, GameFault};
 use std::alloc::Global;
 
+/// The fault of a builder that takes what the lines say: want of memory alone.
+fn want_of_memory(fault: GameFault) -> TextFault
+    requires { fault ≡ GameFault.OutOfMemory }
+    ensures { result ≡ texts.OutOfMemory }
+{
+    drop(fault);
+    TextFault::OutOfMemory
+}
+
 /// One more line of the rows.
 fn add(builder: &mut GameBuilder, entry: RowEntry) -> Result<(), GameFault>
-    ensures { OnOk result (builder.new ≡ with_entry builder.old entry) }
+    requires { Takes builder.old entry }
+    ensures added { OnOk result (builder.new ≡ with_entry builder.old entry) }
+    ensures memory { IfErr result (λ fault. fault ≡ GameFault.OutOfMemory) }
 {
     match entry {
         RowEntry::Step { reward, .. } => builder.step(reward),
@@ -24,19 +35,22 @@ fn add(builder: &mut GameBuilder, entry: RowEntry) -> Result<(), GameFault>
 /// The game that a header and the lines of the rows say.
 pub fn build(alloc: Global, header: &Header, entries: &[RowEntry]) -> Result<Game, TextFault>
     requires said { IsSaid (said entries.now (said_by header.now)) }
+    requires ended { IsEnded (said entries.now (said_by header.now)) }
     ensures game { IfOk result (IsBuilt header.now.first.items (said entries.now (said_by header.now))) }
     ensures others { IfErr result (λ fault. fault ≡ texts.OutOfMemory) }
 {
-    let Ok(mut builder) = GameBuilder::new(alloc, header.shape, &header.first) else {
-        return Err(TextFault::OutOfMemory);
+    let mut builder = match GameBuilder::new(alloc, header.shape, &header.first) {
+        Ok(builder) => builder,
+        Err(fault) => return Err(want_of_memory(fault)),
     };
     for entry in entries {
-        let Ok(()) = add(&mut builder, *entry) else {
-            return Err(TextFault::OutOfMemory);
-        };
+        match add(&mut builder, *entry) {
+            Ok(()) => {}
+            Err(fault) => return Err(want_of_memory(fault)),
+        }
     }
-    let Ok(game) = builder.finish() else {
-        return Err(TextFault::OutOfMemory);
-    };
-    Ok(game)
+    match builder.finish() {
+        Ok(game) => Ok(game),
+        Err(fault) => Err(want_of_memory(fault)),
+    }
 }

@@ -15,6 +15,7 @@ mod texts;
 
 pub use fault::{Kind, TextFault};
 pub use laws::{
-    law_accepted, law_games, law_not_refused, law_read, law_refused_once, law_whole_not_refused,
+    law_accepted, law_any_rest, law_decided, law_decided_alone, law_games, law_not_refused,
+    law_read, law_refused_once, law_whole_not_refused,
 };
 pub use texts::{read, read_alone};

@@ -5,10 +5,12 @@ use std::alloc::Global;
 use std::test::Fail;
 
 /// One state, one action each, a reward of five.
-const FIVE: &[u8] = b"osposg 1\nsize 1 1 1 1\ntotal 1\ndiscount 0 1\nfirst 1\nstep 0 0 0 5\nout 0 0 1\nend\n";
+const FIVE: &[u8] =
+    b"osposg 1\nsize 1 1 1 1\ntotal 1\ndiscount 0 1\nfirst 1\nstep 0 0 0 5\nout 0 0 1\nend\n";
 
 /// Guess the state: a first belief with a common factor, and the larger tables of two states and two actions.
-const GUESS: &[u8] = b"osposg 1\nsize 2 2 1 1\ntotal 1\ndiscount 0 1\nfirst 6 3\nstep 0 0 0 1\nout 0 0 1\nstep 0 1 0 0\nout 0 0 1\nstep 1 0 0 0\nout 0 1 1\nstep 1 1 0 -1\nout 0 1 1\nend\n";
+const GUESS: &[u8] =
+    b"osposg 1\nsize 2 2 1 1\ntotal 1\ndiscount 0 1\nfirst 6 3\nstep 0 0 0 1\nout 0 0 1\nstep 0 1 0 0\nout 0 0 1\nstep 1 0 0 0\nout 0 1 1\nstep 1 1 0 -1\nout 0 1 1\nend\n";
 
 /// The line and the number of the kind that refuse a text, or (0, 0) where it is accepted.
 fn refusal(alloc: Global, text: &[u8]) -> Result<(u32, u32), TextFault>
@@ -25,24 +27,92 @@ fn refusal(alloc: Global, text: &[u8]) -> Result<(u32, u32), TextFault>
 fn a_text_alone_is_read_or_refused_at_its_line(rt: HostRuntime) -> Result<(), Fail> {
     let table: [(&[u8], u32, u32); 19] = [
         (FIVE, 0, 0),
-        (b"osposg 1\nsize 1 1 1 1\ntotal 4\ndiscount 0 1048576\nfirst 1\nstep 0 0 0 1073741824\nout 0 0 4\nend\n", 0, 0),
+        (
+            b"osposg 1\nsize 1 1 1 1\ntotal 4\ndiscount 0 1048576\nfirst 1\nstep 0 0 0 1073741824\nout 0 0 4\nend\n",
+            0,
+            0,
+        ),
         (b"", 1, 9),
-        (b"osposg 3\nsize 1 1 1 1\ntotal 1\ndiscount 0 1\nfirst 1\nstep 0 0 0 5\nout 0 0 1\nend\n", 1, 1),
-        (b"osposg 1\nsize 1 1 1\ntotal 1\ndiscount 0 1\nfirst 1\nstep 0 0 0 5\nout 0 0 1\nend\n", 2, 2),
-        (b"osposg 1\nsize 17 1 1 1\ntotal 1\ndiscount 0 1\nfirst 1\nstep 0 0 0 5\nout 0 0 1\nend\n", 2, 4),
-        (b"osposg 1\nsize 1 1 1 1\ntotal 1x\ndiscount 0 1\nfirst 1\nstep 0 0 0 5\nout 0 0 1\nend\n", 3, 3),
-        (b"osposg 1\nsize 1 1 1 1\ntotal 01\ndiscount 0 1\nfirst 1\nstep 0 0 0 5\nout 0 0 1\nend\n", 3, 3),
-        (b"osposg 1\nsize 1 1 1 1\ntotal 0\ndiscount 0 1\nfirst 1\nstep 0 0 0 5\nout 0 0 1\nend\n", 3, 4),
-        (b"osposg 1\nsize 1 1 1 1\ntotal 1\ndiscount 1 1\nfirst 1\nstep 0 0 0 5\nout 0 0 1\nend\n", 4, 4),
-        (b"osposg 1\nsize 1 1 1 1\ntotal 1\ndiscount 0 1\nfirst 0\nstep 0 0 0 5\nout 0 0 1\nend\n", 5, 7),
-        (b"osposg 1\nsize 1 1 1 1\ntotal 1\ndiscount 0 1\nfirst 1\nstep 0 0 0 1073741825\nout 0 0 1\nend\n", 6, 4),
-        (b"osposg 1\nsize 1 1 1 1\ntotal 8\ndiscount 0 1048576\nfirst 1\nstep 0 0 0 1073741824\nout 0 0 8\nend\n", 6, 8),
-        (b"osposg 1\nsize 1 1 1 1\ntotal 1\ndiscount 0 1\nfirst 1\nstep 0 0 0 5\nout 0 0 2\nend\n", 7, 4),
-        (b"osposg 1\nsize 1 1 1 1\ntotal 2\ndiscount 0 1\nfirst 1\nstep 0 0 0 5\nout 0 0 1\nout 0 0 1\nend\n", 8, 5),
-        (b"osposg 1\nsize 1 1 1 1\ntotal 2\ndiscount 0 1\nfirst 1\nstep 0 0 0 5\nout 0 0 1\nend\n", 8, 6),
-        (b"osposg 1\nsize 1 1 1 1\ntotal 1\ndiscount 0 1\nfirst 1\nstep 0 0 0 5\nout 0 0 1\n", 8, 9),
-        (b"osposg 1\nsize 1 1 1 1\ntotal 1\ndiscount 0 1\nfirst 1\nstep 0 0 0 5\nout 0 0 1\nend", 8, 9),
-        (b"osposg 1\nsize 1 1 1 1\ntotal 1\ndiscount 0 1\nfirst 1\nstep 0 0 0 5\nout 0 0 1\nend\nend\n", 9, 10),
+        (
+            b"osposg 3\nsize 1 1 1 1\ntotal 1\ndiscount 0 1\nfirst 1\nstep 0 0 0 5\nout 0 0 1\nend\n",
+            1,
+            1,
+        ),
+        (
+            b"osposg 1\nsize 1 1 1\ntotal 1\ndiscount 0 1\nfirst 1\nstep 0 0 0 5\nout 0 0 1\nend\n",
+            2,
+            2,
+        ),
+        (
+            b"osposg 1\nsize 17 1 1 1\ntotal 1\ndiscount 0 1\nfirst 1\nstep 0 0 0 5\nout 0 0 1\nend\n",
+            2,
+            4,
+        ),
+        (
+            b"osposg 1\nsize 1 1 1 1\ntotal 1x\ndiscount 0 1\nfirst 1\nstep 0 0 0 5\nout 0 0 1\nend\n",
+            3,
+            3,
+        ),
+        (
+            b"osposg 1\nsize 1 1 1 1\ntotal 01\ndiscount 0 1\nfirst 1\nstep 0 0 0 5\nout 0 0 1\nend\n",
+            3,
+            3,
+        ),
+        (
+            b"osposg 1\nsize 1 1 1 1\ntotal 0\ndiscount 0 1\nfirst 1\nstep 0 0 0 5\nout 0 0 1\nend\n",
+            3,
+            4,
+        ),
+        (
+            b"osposg 1\nsize 1 1 1 1\ntotal 1\ndiscount 1 1\nfirst 1\nstep 0 0 0 5\nout 0 0 1\nend\n",
+            4,
+            4,
+        ),
+        (
+            b"osposg 1\nsize 1 1 1 1\ntotal 1\ndiscount 0 1\nfirst 0\nstep 0 0 0 5\nout 0 0 1\nend\n",
+            5,
+            7,
+        ),
+        (
+            b"osposg 1\nsize 1 1 1 1\ntotal 1\ndiscount 0 1\nfirst 1\nstep 0 0 0 1073741825\nout 0 0 1\nend\n",
+            6,
+            4,
+        ),
+        (
+            b"osposg 1\nsize 1 1 1 1\ntotal 8\ndiscount 0 1048576\nfirst 1\nstep 0 0 0 1073741824\nout 0 0 8\nend\n",
+            6,
+            8,
+        ),
+        (
+            b"osposg 1\nsize 1 1 1 1\ntotal 1\ndiscount 0 1\nfirst 1\nstep 0 0 0 5\nout 0 0 2\nend\n",
+            7,
+            4,
+        ),
+        (
+            b"osposg 1\nsize 1 1 1 1\ntotal 2\ndiscount 0 1\nfirst 1\nstep 0 0 0 5\nout 0 0 1\nout 0 0 1\nend\n",
+            8,
+            5,
+        ),
+        (
+            b"osposg 1\nsize 1 1 1 1\ntotal 2\ndiscount 0 1\nfirst 1\nstep 0 0 0 5\nout 0 0 1\nend\n",
+            8,
+            6,
+        ),
+        (
+            b"osposg 1\nsize 1 1 1 1\ntotal 1\ndiscount 0 1\nfirst 1\nstep 0 0 0 5\nout 0 0 1\n",
+            8,
+            9,
+        ),
+        (
+            b"osposg 1\nsize 1 1 1 1\ntotal 1\ndiscount 0 1\nfirst 1\nstep 0 0 0 5\nout 0 0 1\nend",
+            8,
+            9,
+        ),
+        (
+            b"osposg 1\nsize 1 1 1 1\ntotal 1\ndiscount 0 1\nfirst 1\nstep 0 0 0 5\nout 0 0 1\nend\nend\n",
+            9,
+            10,
+        ),
     ];
     for (text, line, kind) in &table {
         assert!(rt; text.len() < 1000);

@@ -40,7 +40,7 @@ fn read_front(alloc: Global, bytes: &[u8]) -> Result<(Game, u32, usize), TextFau
 /// # Errors
 ///
 /// `Line` exactly where no text of a game stands at the front: with the first refused line, counted from 1, and
-/// its least kind, which is not `Trailing`.
+/// its least kind, which is not `Trailing`. `OutOfMemory` where there is not enough memory.
 pub fn read(alloc: Global, bytes: &[u8]) -> Result<(Game, usize), TextFault>
     requires { length bytes.now ≤ 2 ^ 27 }
     ensures place { IfOk result (λ found. found.1 ≤ length bytes.now) }
@@ -58,7 +58,8 @@ pub fn read(alloc: Global, bytes: &[u8]) -> Result<(Game, usize), TextFault>
 /// # Errors
 ///
 /// `Line` exactly where the bytes are no text of a game: with the first refused line, counted from 1, and its
-/// least kind. It is `Trailing`, at the line after `end`, where bytes follow the text of a game.
+/// least kind. It is `Trailing`, at the line after `end`, where bytes follow the text of a game. `OutOfMemory`
+/// where there is not enough memory.
 pub fn read_alone(alloc: Global, bytes: &[u8]) -> Result<Game, TextFault>
     requires { length bytes.now ≤ 2 ^ 27 }
     ensures game { IfOk result (λ game. IsTextOf game bytes.now []) }

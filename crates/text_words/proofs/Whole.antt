@@ -1,10 +1,10 @@
 -- Whole lines: a line that is written is read back as its words.
-use Rattle.std.proofs.Common.{◌≡◌, ℕ, zero, suc, ◌+◌, ◌<◌, ◌≤◌, Bool, true, false, cond, not, eqb, ltb, List, [], ◌∷◌, ◌++◌, length, get_or, take, drop, map, refl, sym, ap, subst, ◌∙◌, arith, append_assoc}
+use Rattle.std.proofs.Common.{◌≡◌, ℕ, zero, suc, ◌+◌, ◌<◌, ◌≤◌, Bool, true, false, eqb, List, [], ◌∷◌, ◌++◌, length, get_or, take, drop, map, refl, sym, ap, ◌∙◌, arith, append_assoc}
 use Rattle.std.specs.List.{AllByRecursion, slice_split, onto_first, join_with_byte, after_first, before_first, position_or_len}
 use Rattle.std.proofs.lemmas.List.{drop_more, length-drop}
 use Rattle.std.proofs.lemmas.List.Sums.{passes_at_first}
-use Rattle.std.proofs.lemmas.List.Splits.{slice_split-cons_yes, slice_split-cons_no, length-slice_split, slice_split_first, join_with_byte-slice_split}
-use Rattle.std.proofs.lemmas.Bool.{eqb-true, ltb-true, ltb-false}
+use Rattle.std.proofs.lemmas.List.Splits.{slice_split-cons_yes, slice_split-cons_no, length-slice_split, join_with_byte-slice_split}
+use Rattle.std.proofs.lemmas.Bool.{eqb-true}
 use Rattle.std.proofs.lemmas.List.{take-append-drop}
 use Rattle.std.proofs.lemmas.Bool.{cases_lt}
 use Rattle.std.proofs.Common.{inl, inr}
@@ -81,7 +81,7 @@ lines_of-line word words rest w =
     let bytes = join_with_byte 32 (word ∷ words) in
     let pieces = slice_split is_feed rest in
     let cut : slice_split is_feed (line_text (word ∷ words) ++ rest) ≡ bytes ∷ pieces =
-        ap (slice_split is_feed) (line_assoc (word ∷ words) rest) ∙ split_at is_feed bytes 10 rest (joined_feeds (word ∷ words) w) refl in
+    ap (slice_split is_feed) (line_assoc (word ∷ words) rest) ∙ split_at is_feed bytes 10 rest (joined_feeds (word ∷ words) w) refl in
     ap (λ (ps : List (List ℕ)). map words_of (ended ps)) cut
     ∙ ap (map words_of) (ended_more bytes pieces (omega (arith, length-slice_split is_feed rest)))
     ∙ ap (λ (l : Line). l ∷ map words_of (ended pieces)) (joined_words word words w)
@@ -116,7 +116,7 @@ whole_first text line lines lt h =
     let more = lines_of-more text i (grind (arith, nat_tests)) in
     let p = cons_is (words_of (before_first is_feed text)) line (lines_of (after_first is_feed text)) lines (sym more ∙ h) in
     let same : line_text line ++ after_first is_feed text ≡ before_first is_feed text ++ (10 ∷ after_first is_feed text) =
-        line_assoc line (after_first is_feed text) ∙ ap (λ (l : List ℕ). l ++ (10 ∷ after_first is_feed text)) (ap (join_with_byte 32) (sym p.0) ∙ joined_line (before_first is_feed text)) in
+    line_assoc line (after_first is_feed text) ∙ ap (λ (l : List ℕ). l ++ (10 ∷ after_first is_feed text)) (ap (join_with_byte 32) (sym p.0) ∙ joined_line (before_first is_feed text)) in
     (cut_first text lt ∙ sym same, p.1)
 
 pub lines_of-first : (text : List ℕ) (line : Line) (lines : List Line) → lines_of text ≡ line ∷ lines

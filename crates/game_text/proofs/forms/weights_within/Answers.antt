@@ -1,4 +1,4 @@
-use Rattle.std.proofs.Common.{◌≡◌, pos, ℤ, Bool, true, refl, Result, Ok, Err, cond, ap, sym, ◌∙◌, rules, tests}
+use Rattle.std.proofs.Common.{pos, refl, sym, ◌∙◌, rules, tests}
 use Rattle.std.proofs.lemmas.Iterator.{YieldsList-from_slice}
 use Rattle.std.proofs.lemmas.Iterator.Search.{all_from_yields_List}
 use Rattle.game_text.specs.Forms.{is_within, weights_within}

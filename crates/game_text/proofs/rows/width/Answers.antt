@@ -1,5 +1,5 @@
-use Rattle.std.proofs.Common.{◌≡◌, ◌≤◌, ◌*◌, ◌^◌, ℕ, ℤ, pos, ◌*ℤ◌, ap, sym, ◌∙◌, subst, arith, rules, lit<}
-use Rattle.std.specs.Prelude.{unsigned_abs, max, ◌≤ℤ◌}
+use Rattle.std.proofs.Common.{◌≤◌, ◌^◌, ℤ, ◌*ℤ◌, ap, sym, subst, arith, lit<}
+use Rattle.std.specs.Prelude.{unsigned_abs}
 use Rattle.std.proofs.lemmas.Int.{ints}
 use Rattle.game_text.proofs.Widths.{abs_limit, abs_product, fits_in, kept, high_limit, magnitude, limit_of}
 use Rattle.game_text.proofs.rows.width.Goals as goal

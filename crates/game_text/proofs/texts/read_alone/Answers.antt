@@ -2,7 +2,7 @@ use Rattle.std.proofs.Common.{◌+◌, arith}
 use Rattle.std.proofs.lemmas.Result.{err_from_is_err_and}
 use Rattle.game_text.specs.declared.fault.Kind.TheVariants.{Trailing}
 use Rattle.game_text.proofs.Accept.{whole_not_refused}
-use Rattle.game_text.proofs.Refusals.{refused_alone, no_text, goes_on, to_the_end}
+use Rattle.game_text.proofs.Refusals.{refused_alone, no_text, goes_on}
 use Rattle.game_text.proofs.texts.read_alone.Goals as goal
 
 pub returns-in_err-game-clause-refused : goal.returns-in_err-game-clause-refused

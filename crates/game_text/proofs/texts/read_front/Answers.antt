@@ -1,16 +1,16 @@
-use Rattle.std.proofs.Common.{◌≡◌, ◌+◌, ◌-◌, ◌<◌, ◌≤◌, ◌^◌, ℕ, List, [], ◌∷◌, drop, length, refl, sym, ap, subst, ◌∙◌, arith, rules}
+use Rattle.std.proofs.Common.{◌≡◌, ◌+◌, ◌-◌, ◌<◌, ◌≤◌, ◌^◌, ℕ, List, [], ◌∷◌, drop, length, refl, sym, ap, subst, ◌∙◌, arith}
 use Rattle.std.proofs.lemmas.Result.{err_from_is_err_and}
-use Rattle.text_words.specs.Lines.{Line, lines_of, after_lines}
+use Rattle.text_words.specs.Lines.{lines_of, after_lines}
 use Rattle.text_words.proofs.Whole.{after_lines-length}
 use Rattle.game_text.specs.declared.place.RowEntry.{RowEntry}
 use Rattle.game_text.specs.Header.{said_by}
 use Rattle.game_text.specs.declared.place.RowEntry.TheVariants as row
 use Rattle.game_text.specs.Entries.{Entry}
-use Rattle.game_text.specs.Built.{IsBuilt, EndsAfter}
+use Rattle.game_text.specs.Built.{IsBuilt, IsEnded, EndsAfter}
 use Rattle.game_text.proofs.Accept.{weights_in}
 use Rattle.game_text.specs.Place.{said, entry_in}
 use Rattle.game_text.specs.Reading.{Say}
-use Rattle.game_text.proofs.Final.{Found, found}
+use Rattle.game_text.proofs.Final.{found}
 use Rattle.game_text.proofs.texts.read_front.Goals as goal
 
 -- what is left after some lines is no longer than the bytes
@@ -28,7 +28,10 @@ returns-in_err-entries-clause-refused c =
 pub build-requires : goal.build-requires
 build-requires c =
     let reads = c.in_ok-entries.ensures.found (lines_of c.args.bytes.now) (said_by c.in_ok-header.header) c.in_ok-header.ensures.found refl tt in
-    record { said = (reads.0, subst (λ (es : List RowEntry). Say reads.0 (said es (said_by c.in_ok-header.header))) (sym c.deref.ensures.value) reads.3) }
+    record {
+      ended = subst (λ (es : List RowEntry). IsEnded (said es (said_by c.in_ok-header.header))) (sym c.deref.ensures.value) (c.in_ok-entries.ensures.ended (said_by c.in_ok-header.header));
+      said = (reads.0, subst (λ (es : List RowEntry). Say reads.0 (said es (said_by c.in_ok-header.header))) (sym c.deref.ensures.value) reads.3);
+    }
 
 pub returns-in_err-game-clause-refused : goal.returns-in_err-game-clause-refused
 returns-in_err-game-clause-refused c =
@@ -73,7 +76,7 @@ returns-clause-ends c =
     let reads = c.in_ok-entries.ensures.found (lines_of c.args.bytes.now) base c.in_ok-header.ensures.found refl tt in
     let built = subst (λ (es : List RowEntry). IsBuilt c.in_ok-header.header.first.items (said es base) c.in_ok-game.game) c.deref.ensures.value c.in_ok-game.ensures.game in
     let f = found c.args.bytes.now (length c.in_ok-entries.entries.items) (said c.in_ok-entries.entries.items base) c.in_ok-header.body.now c.in_ok-entries.rest.now c.in_ok-header.header.first.items c.in_ok-game.game
-        reads c.in_ok-header.ensures.after c.in_ok-entries.ensures.after (c.in_ok-entries.ensures.ended base) built (weights_said c.in_ok-entries.entries.items base) c.law_game.ensures.accepted in
+    reads c.in_ok-header.ensures.after c.in_ok-entries.ensures.after (c.in_ok-entries.ensures.ended base) built (weights_said c.in_ok-entries.entries.items base) c.law_game.ensures.accepted in
     subst (λ (n : ℕ). EndsAfter c.args.bytes.now (5 + n) (drop (length c.args.bytes.now - length c.in_ok-entries.rest.now) c.args.bytes.now)) (sym counted) f.ends
 
 pub returns-clause-game : goal.returns-clause-game
@@ -83,5 +86,5 @@ returns-clause-game c =
     let reads = c.in_ok-entries.ensures.found (lines_of c.args.bytes.now) base c.in_ok-header.ensures.found refl tt in
     let built = subst (λ (es : List RowEntry). IsBuilt c.in_ok-header.header.first.items (said es base) c.in_ok-game.game) c.deref.ensures.value c.in_ok-game.ensures.game in
     let f = found c.args.bytes.now (length c.in_ok-entries.entries.items) (said c.in_ok-entries.entries.items base) c.in_ok-header.body.now c.in_ok-entries.rest.now c.in_ok-header.header.first.items c.in_ok-game.game
-        reads c.in_ok-header.ensures.after c.in_ok-entries.ensures.after (c.in_ok-entries.ensures.ended base) built (weights_said c.in_ok-entries.entries.items base) c.law_game.ensures.accepted in
+    reads c.in_ok-header.ensures.after c.in_ok-entries.ensures.after (c.in_ok-entries.ensures.ended base) built (weights_said c.in_ok-entries.entries.items base) c.law_game.ensures.accepted in
     f.game

@@ -1,0 +1,6 @@
+pub mod Shares
+pub mod Running
+pub mod Named
+pub mod Masses
+pub mod Worth
+pub mod Fitting

@@ -1,0 +1,65 @@
+-- Points and shares of the program as the data that the rules speak of.
+use Rattle.std.specs.Prelude.{ℕ, ℤ, pos, Bool, List, length, map, filter, sum_by, unsigned_abs, ◌*◌, ◌*ℤ◌, ◌<◌, ◌==◌, ◌&&◌}
+use Rattle.std.specs.List.{AllByRecursion}
+use Rattle.scaled_num.specs.Sums.{below, total}
+use Rattle.game_model.specs.Branches.{Branch}
+use Rattle.game_model.specs.Game.{GameData, reward_at}
+use Rattle.belief.specs.Beliefs.{mix_weight}
+use Rattle.belief.specs.Mixes.{MixesData}
+use Rattle.point_set.specs.Points.{Point, PointData, PointFits}
+use Rattle.point_set.specs.declared.points.Point.{Point as PointParts}
+use Rattle.point_set.specs.declared.points.Share.{Share as ShareParts}
+
+-- a share as a branch
+abbrev pub branch_of : ShareParts → Branch
+branch_of share = record { own = share.a; seen = share.o; member = share.k; weight = share.weight }
+
+-- a point as data
+abbrev pub point_data : PointParts → PointData
+point_data point = record {
+  belief = point.belief;
+  value = point.value;
+  mixes = point.mixes;
+  splits = map branch_of point.splits.items;
+}
+
+abbrev pub data_of : List PointParts → List PointData
+data_of points = map point_data points
+
+-- the most points of a set
+abbrev pub most_points : ℕ
+most_points = 1024
+
+-- a point and all points that its shares may name fit the game
+pub record IsMember (g : GameData) (points : List PointParts) (point : PointParts) : Type 0 where
+  pub each : AllByRecursion (PointFits g most_points) (data_of points)
+  pub fits : PointFits g most_points (point_data point)
+  pub named : AllByRecursion (λ (share : Branch). share.member < length points) (map branch_of point.splits.items)
+
+-- a share names one of the points
+abbrev pub IsNamed : List PointParts → ShareParts → Type 0
+IsNamed points share = share.k < length points
+
+-- a share stands after this own action and this observation
+abbrev pub IsAfter : ℕ → ℕ → ShareParts → Bool
+IsAfter a o share = (share.a == a) && (share.o == o)
+
+-- the weight of a state that a share brings
+abbrev pub brought : (ℕ → Point) → ℕ → ShareParts → ℕ
+brought points s share = unsigned_abs share.weight * (points share.k).belief s
+
+-- what a share counts for in a stage's worth
+abbrev pub counted : (ℕ → Point) → ShareParts → ℤ
+counted points share = share.weight *ℤ (points share.k).value
+
+-- the magnitude of that, summed over shares
+abbrev pub counted_size : (ℕ → Point) → List ShareParts → ℕ
+counted_size points shares = sum_by (λ share. unsigned_abs (counted points share)) shares
+
+-- the shares' part of a stage's worth after an own action
+abbrev pub counted_after : (ℕ → Point) → List ShareParts → ℕ → ℕ → ℤ
+counted_after points splits observations a = total (λ o. total (counted points) (filter (IsAfter a o) splits)) (below observations)
+
+-- what mixes make of the rewards of an own action in a state
+abbrev pub row_rewards : GameData → MixesData → ℕ → ℕ → ℤ
+row_rewards g mixes a s = total (λ c. pos (mix_weight mixes s c) *ℤ reward_at g s a c) (below g.shape.informed_actions)

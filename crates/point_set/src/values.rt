@@ -1,0 +1,108 @@
+ghost use Rattle.belief.specs.Beliefs.{weight_at};
+ghost use Rattle.game_model.specs.Branches.{AreRising};
+ghost use Rattle.game_model.specs.Game.{IsBelief, numbers};
+ghost use Rattle.point_set.specs.Faults.{SplitsHold, ValueFailsFirst, ValuesHold};
+ghost use Rattle.point_set.specs.Members.{IsAfter, IsMember, IsNamed, branch_of, counted, counted_after, counted_size, data_of, point_data, row_rewards};
+ghost use Rattle.point_set.specs.Points.{ValueHolds, point_of, points_of};
+ghost use Rattle.scaled_num.specs.Sums.{below, total};
+ghost use Rattle.std.specs.Bool.{IsTrue};
+ghost use Rattle.std.specs.List.{AllByRecursion};
+ghost use Rattle.std.specs.Prelude.{IfSome, IsNone, filter, map, pos, sum_by, unsigned_abs, ◌*ℤ◌, ◌<◌, ◌^◌, ◌↔◌, ◌≡◌, ◌≤◌};
+
+use crate::points::{Point, Share};
+use crate::splits::shares_after;
+use belief::{Belief, Mixes};
+use game_model::{Game, UNITS, law_game};
+
+/// The total of every mix.
+const MIX_TOTAL: i128 = 65_536;
+
+/// The first own action at which the value rule fails.
+pub fn first_value(game: &Game, points: &[Point], point: &Point) -> Option<u32>
+    requires member { IsMember game.now points.now point.now }
+    requires splits { SplitsHold (numbers game.now) (points_of (data_of points.now)) (point_of (point_data point.now)) }
+    ensures none { IsNone result → ValuesHold (numbers game.now) (points_of (data_of points.now)) (point_of (point_data point.now)) }
+    ensures first { IfSome result (ValueFailsFirst (numbers game.now) (points_of (data_of points.now)) (point_of (point_data point.now))) }
+{
+    for a in 0..game.own_actions() {
+        if !holds(game, points, point, a) {
+            return Some(a);
+        }
+    }
+    None
+}
+
+/// Whether the value rule holds at an own action.
+fn holds(game: &Game, points: &[Point], point: &Point, a: u32) -> bool
+    requires member { IsMember game.now points.now point.now }
+    requires splits { SplitsHold (numbers game.now) (points_of (data_of points.now)) (point_of (point_data point.now)) }
+    requires own { a < game.now.shape.own_actions }
+    ensures { IsTrue result ↔ ValueHolds (numbers game.now) (points_of (data_of points.now)) (point_of (point_data point.now)) a }
+{
+    law_game(game);
+    let (over, under) = game.discount();
+    let scale = game.row_total() * under;
+    let at_once = UNITS * scale * rewards(game, &point.belief, &point.mixes, a);
+    let later = over * counted(game, points, &point.splits, a);
+    at_once + later <= point.value * (MIX_TOTAL * scale)
+}
+
+/// The sum over the states and the informed actions of the belief's weight times the mix's weight times the reward.
+fn rewards(game: &Game, belief: &Belief, mixes: &Mixes, a: u32) -> i128
+    requires fits { IsBelief game.now.shape.states belief.now }
+    requires states { mixes.now.states ≡ game.now.shape.states }
+    requires actions { mixes.now.actions ≡ game.now.shape.informed_actions }
+    requires own { a < game.now.shape.own_actions }
+    ensures { result ≡ total (λ s. pos (weight_at belief.now s) *ℤ row_rewards game.now mixes.now a s) (below game.now.shape.states) }
+{
+    law_game(game);
+    let mut sum = 0;
+    for s in 0..game.states() {
+        sum += belief.parts()[s as usize] * mixed_reward(game, mixes, s, a);
+    }
+    sum
+}
+
+/// The sum over the informed actions of the mix's weight in a state times the reward.
+fn mixed_reward(game: &Game, mixes: &Mixes, s: u32, a: u32) -> i128
+    requires states { mixes.now.states ≡ game.now.shape.states }
+    requires actions { mixes.now.actions ≡ game.now.shape.informed_actions }
+    requires state { s < game.now.shape.states }
+    requires own { a < game.now.shape.own_actions }
+    ensures exact { result ≡ row_rewards game.now mixes.now a s }
+    ensures small { unsigned_abs result ≤ 2 ^ 49 }
+{
+    law_game(game);
+    let mut sum = 0;
+    for c in 0..game.informed_actions() {
+        sum += mixes.get(s, c) * game.reward(s, a, c);
+    }
+    sum
+}
+
+/// The sum over the observations and the shares after an own action of the share's weight times its point's value.
+fn counted(game: &Game, points: &[Point], splits: &[Share], a: u32) -> i128
+    requires named { AllByRecursion (IsNamed points.now) splits.now }
+    requires rising { AreRising (map branch_of splits.now) }
+    requires small { sum_by (λ o. counted_size (points_of (data_of points.now)) (filter (IsAfter a o) splits.now)) (below game.now.shape.observations) ≤ 2 ^ 124 }
+    ensures { result ≡ counted_after (points_of (data_of points.now)) splits.now game.now.shape.observations a }
+{
+    let mut sum = 0;
+    for o in 0..game.observations() {
+        sum += counted_shares(points, shares_after(splits, a, o));
+    }
+    sum
+}
+
+/// The sum over shares of the share's weight times its point's value.
+fn counted_shares(points: &[Point], shares: &[Share]) -> i128
+    requires named { AllByRecursion (IsNamed points.now) shares.now }
+    requires small { counted_size (points_of (data_of points.now)) shares.now ≤ 2 ^ 124 }
+    ensures { result ≡ total (counted (points_of (data_of points.now))) shares.now }
+{
+    let mut sum = 0;
+    for share in shares {
+        sum += share.weight * points[share.k as usize].value;
+    }
+    sum
+}
