@@ -81,8 +81,9 @@ fn later_after(game: &Game, table: &[i128], s: u32, a: u32, c: u32) -> i128
     ensures small { unsigned_abs result ≤ unsigned_abs game.now.shape.row_total * (mix_total * span game.now) }
 {
     law_game(game);
+    let row = game.row(s, a, c);
     let mut sum = 0;
-    for landing in game.row(s, a, c) {
+    for landing in row {
         sum += landing.weight * table[place(a, landing.seen, landing.to)];
     }
     sum
