@@ -1,3 +1,5 @@
 pub mod Totals
 pub mod Adding
 pub mod Rows
+pub mod Wide
+pub mod Filling
