@@ -1,7 +1,6 @@
 -- A vector times a weight, added to a part of a table entry by entry.
-use Rattle.std.proofs.Common.{◌≡◌, ℕ, zero, suc, ◌+◌, ◌*◌, ◌^◌, ◌<◌, ◌≤◌, ◌⊎◌, inl, inr, List, [], ◌∷◌, length, get_or, set, refl, ap, arith, sym, subst, ◌∙◌}
-use Rattle.std.specs.Prelude.{ℤ, pos, ◌+ℤ◌, ◌*ℤ◌, ◌≤ℤ◌, unsigned_abs, FitsSigned}
-use Rattle.std.specs.List.{AllByRecursion}
+use Rattle.std.proofs.Common.{◌≡◌, ℕ, ◌+◌, ◌*◌, ◌^◌, ◌<◌, ◌≤◌, ◌⊎◌, inl, inr, List, length, get_or, set, ap, arith, sym, subst, ◌∙◌}
+use Rattle.std.specs.Prelude.{ℤ, pos, ◌+ℤ◌, ◌*ℤ◌, unsigned_abs, FitsSigned}
 use Rattle.std.specs.Int.{w128}
 use Rattle.std.proofs.lemmas.Int.{ints, fits_signed_from_abs, unsigned_abs-mul}
 use Rattle.std.proofs.lemmas.Nat.{mul-le}
@@ -9,7 +8,7 @@ use Rattle.std.proofs.lemmas.List.{get_or-set_same, get_or-set_other, length-set
 use Rattle.std.proofs.lemmas.Bool.Decides.{eqb_tells}
 use Rattle.alpha_set.specs.Members.{brought, entry_at, table_place}
 use Rattle.alpha_set.specs.declared.nodes.Step.{Step as StepParts}
-use Rattle.alpha_set.proofs.Totals.{abs-add, abs-within}
+use Rattle.alpha_set.proofs.Totals.{abs-add}
 
 -- the first entries of the vector were added
 pub record Added (old vector table : List ℤ) (start n : ℕ) (w : ℤ) : Type 0 where
@@ -52,7 +51,7 @@ next-added old vector table start n w l room small light entry so_far =
         done = λ u lu. elim (split u n lu) [
           | inl b ↦ get_or-set_other table here (start + u) new (pos 0) (λ e. omega arith) ∙ so_far.done u b
           | inr e ↦ subst (λ (k : ℕ). get_or (set table here new) (start + k) (pos 0) ≡ get_or old (start + k) (pos 0) +ℤ w *ℤ get_or vector k (pos 0)) (sym e)
-          (get_or-set_same table here new (pos 0) inside ∙ ap (λ (z : ℤ). z +ℤ w *ℤ x) is_old)
+              (get_or-set_same table here new (pos 0) inside ∙ ap (λ (z : ℤ). z +ℤ w *ℤ x) is_old)
         ];
         left = λ k away. get_or-set_other table here k new (pos 0) (λ e. apart k away e) ∙ so_far.left k (wider k away);
       };

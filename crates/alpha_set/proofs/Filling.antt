@@ -6,7 +6,7 @@ use Rattle.std.proofs.Math.Nat.{mul-le-mul_left, mul-le-mul_right}
 use Rattle.std.proofs.lemmas.Int.{ints, unsigned_abs-mul}
 use Rattle.std.proofs.lemmas.List.{take_all}
 use Rattle.std.proofs.lemmas.List.Sums.{sum_by-cons, sum_by-take-le}
-use Rattle.scaled_num.specs.Sums.{below, total}
+use Rattle.scaled_num.specs.Sums.{total}
 use Rattle.scaled_num.proofs.Sums.{each-at}
 use Rattle.game_model.specs.Branches.{Branch, IsBranch, branches_at, mix_total}
 use Rattle.game_model.specs.Game.{GameData, IsGame, IsWithin, numbers, span}
@@ -178,9 +178,9 @@ at-step g right nodes node h i table so_far l =
       few = omega (arith, its.long);
       entries = each-from (λ x. unsigned_abs x ≤ span g) (λ x. unsigned_abs x ≤ 2 ^ 66) (vector_of nodes step.k) (λ x b. omega (arith, span-small g right)) its.each;
       small = λ t lt.
-      let below_states : t < g.shape.states = subst (λ (n : ℕ). t < n) its.long lt in
-      subst (λ (z : ℤ). unsigned_abs z ≤ 2 ^ 82) (sym (so_far.entries step.a step.o t seen8 below_states))
-      (omega (arith, first-small g nodes node h i step.a step.o t own seen below_states, span-small g right));
+          let below_states : t < g.shape.states = subst (λ (n : ℕ). t < n) its.long lt in
+          subst (λ (z : ℤ). unsigned_abs z ≤ 2 ^ 82) (sym (so_far.entries step.a step.o t seen8 below_states))
+          (omega (arith, first-small g nodes node h i step.a step.o t own seen below_states, span-small g right));
     }
 
 pub next-step : (g : GameData) → IsGame g → (nodes : List NodeParts) (node : NodeParts) → IsMember g nodes node → (i : ℕ) (table : List ℤ) → Filled g nodes node.next.items i table →
@@ -200,11 +200,11 @@ filled-more g nodes all steps i vector table new e l so_far long states same add
     record {
       long = long;
       entries = λ a o t lo lt.
-      added a o t lo (subst (λ (n : ℕ). t < n) (sym states) lt)
-      ∙ ap (λ (z : ℤ). z +ℤ brought (get_or steps i no_step) vector a o t) (so_far.entries a o t lo lt)
-      ∙ ap (λ (v : List ℤ). total (step_worth nodes a o t) (take i all) +ℤ brought (get_or steps i no_step) v a o t) same
-      ∙ subst (λ (ss : List StepParts). i < length ss → total (step_worth nodes a o t) (take i all) +ℤ step_worth nodes a o t (get_or ss i no_step) ≡ total (step_worth nodes a o t) (take (i + 1) all)) (sym e)
-      (λ k. sym (total-more (step_worth nodes a o t) all i no_step k)) l;
+          added a o t lo (subst (λ (n : ℕ). t < n) (sym states) lt)
+          ∙ ap (λ (z : ℤ). z +ℤ brought (get_or steps i no_step) vector a o t) (so_far.entries a o t lo lt)
+          ∙ ap (λ (v : List ℤ). total (step_worth nodes a o t) (take i all) +ℤ brought (get_or steps i no_step) v a o t) same
+          ∙ subst (λ (ss : List StepParts). i < length ss → total (step_worth nodes a o t) (take i all) +ℤ step_worth nodes a o t (get_or ss i no_step) ≡ total (step_worth nodes a o t) (take (i + 1) all)) (sym e)
+          (λ k. sym (total-more (step_worth nodes a o t) all i no_step k)) l;
     }
 
 -- an empty table
@@ -229,12 +229,13 @@ filled-table g right nodes node h i table filled past =
     let all : take i node.next.items ≡ node.next.items = take_all i node.next.items past in
     let positive : AllByRecursion (λ (step : StepParts). pos 1 ≤ℤ step.weight) node.next.items =
     each-from (λ (step : StepParts). IsBranch (numbers g) most_nodes (pos mix_total) (branch_of step)) (λ (step : StepParts). pos 1 ≤ℤ step.weight) node.next.items (λ step b. b.weight.0)
-    (each-unmapped (IsBranch (numbers g) most_nodes (pos mix_total)) branch_of node.next.items h.fits.next.each) in
-    (record {
-      long = filled.long;
-      small = λ a o t la lo lt. subst (λ (z : ℤ). unsigned_abs z ≤ mix_total * span g) (sym (filled.entries a o t (omega arith) lt)) (first-small g nodes node h i a o t la lo lt);
-    },
-    λ a o t la lo lt.
-    filled.entries a o t (omega arith) lt
-    ∙ ap (total (step_worth nodes a o t)) all
-    ∙ all-steps nodes node.vector.items node.mix.items a o t node.next.items positive)
+    (each-unmapped (IsBranch (numbers g) most_nodes (pos mix_total)) branch_of node.next.items h.fits.next.each) in (
+      record {
+        long = filled.long;
+        small = λ a o t la lo lt. subst (λ (z : ℤ). unsigned_abs z ≤ mix_total * span g) (sym (filled.entries a o t (omega arith) lt)) (first-small g nodes node h i a o t la lo lt);
+      },
+      λ a o t la lo lt.
+          filled.entries a o t (omega arith) lt
+          ∙ ap (total (step_worth nodes a o t)) all
+          ∙ all-steps nodes node.vector.items node.mix.items a o t node.next.items positive,
+    )

@@ -3,3 +3,4 @@ pub mod Adding
 pub mod Rows
 pub mod Wide
 pub mod Filling
+pub mod Rules

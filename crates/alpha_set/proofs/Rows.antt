@@ -1,14 +1,13 @@
 -- Sums over the rows of a game of weights times the entries of a table, and how large they are.
-use Rattle.std.proofs.Common.{◌≡◌, ℕ, zero, suc, ◌+◌, ◌*◌, ◌^◌, ◌<◌, ◌≤◌, List, [], ◌∷◌, length, get_or, take, refl, ap, arith, sym, subst, ◌∙◌}
-use Rattle.std.specs.Prelude.{ℤ, pos, ◌+ℤ◌, ◌*ℤ◌, ◌≤ℤ◌, unsigned_abs, FitsSigned, sum_by}
+use Rattle.std.proofs.Common.{◌≡◌, ℕ, ◌+◌, ◌*◌, ◌^◌, ◌<◌, ◌≤◌, List, length, get_or, take, ap, arith, sym, subst, ◌∙◌}
+use Rattle.std.specs.Prelude.{ℤ, pos, ◌+ℤ◌, ◌*ℤ◌, unsigned_abs, FitsSigned, sum_by}
 use Rattle.std.specs.List.{AllByRecursion}
 use Rattle.std.specs.Int.{w128}
-use Rattle.std.proofs.Math.Nat.{mul-le-mul_left, mul-le-mul_right}
-use Rattle.std.proofs.lemmas.Int.{ints, fits_signed_from_abs, unsigned_abs-mul}
+use Rattle.std.proofs.Math.Nat.{mul-le-mul_left}
+use Rattle.std.proofs.lemmas.Int.{fits_signed_from_abs, unsigned_abs-mul}
 use Rattle.std.proofs.lemmas.Nat.{mul-le}
-use Rattle.std.proofs.lemmas.List.{get_or-set_same}
 use Rattle.std.proofs.lemmas.List.Sums.{sum_by_more, sum_by_more_le}
-use Rattle.scaled_num.specs.Sums.{below, total}
+use Rattle.scaled_num.specs.Sums.{total}
 use Rattle.scaled_num.proofs.Sums.{each-at, total-same}
 use Rattle.game_model.specs.Branches.{mix_total}
 use Rattle.game_model.specs.Game.{GameData, IsGame, IsLanding, numbers, row_at, span}
@@ -20,8 +19,8 @@ use Rattle.game_model.proofs.Pay.{each-from}
 use Rattle.game_model.proofs.Rows.{row-landings}
 use Rattle.game_model.proofs.Sizes.{total-more}
 use Rattle.game_model.proofs.Worth.{span-small}
-use Rattle.alpha_set.specs.Members.{IsTable, entry_at, table_length, table_place}
-use Rattle.alpha_set.proofs.Totals.{abs-add, abs-within, total-below-more}
+use Rattle.alpha_set.specs.Members.{IsTable, entry_at, table_place}
+use Rattle.alpha_set.proofs.Totals.{abs-add, abs-within}
 
 abbrev pub none : Landing
 none = landing_of 0 0 (pos 0)

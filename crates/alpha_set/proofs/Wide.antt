@@ -1,5 +1,5 @@
 -- The width rule, and how large both sides of the node rule are under it.
-use Rattle.std.proofs.Common.{◌≡◌, ℕ, zero, suc, ◌+◌, ◌-◌, ◌*◌, ◌/◌, ◌^◌, ◌<◌, ◌≤◌, ◌⊎◌, inl, inr, max, List, [], ◌∷◌, refl, ap, arith, sym, subst, ◌∙◌}
+use Rattle.std.proofs.Common.{◌≡◌, ℕ, suc, ◌+◌, ◌-◌, ◌*◌, ◌/◌, ◌^◌, ◌≤◌, ◌⊎◌, inl, inr, max, List, [], ◌∷◌, refl, ap, arith, subst, ◌∙◌}
 use Rattle.std.specs.Prelude.{ℤ, pos, ◌+ℤ◌, ◌*ℤ◌, ◌≤ℤ◌, unsigned_abs, FitsSigned, fold}
 use Rattle.std.specs.List.{AllByRecursion}
 use Rattle.std.specs.Int.{w128}
@@ -8,7 +8,6 @@ use Rattle.std.proofs.lemmas.Int.{ints, fits_signed_from_abs, unsigned_abs-mul}
 use Rattle.std.proofs.lemmas.Nat.{div_below, mul-le}
 use Rattle.game_model.specs.Game.{GameData, IsGame, IsNarrow, IsRewardInRange, greatest_reward, span, unit}
 use Rattle.game_model.specs.Branches.{mix_total}
-use Rattle.game_model.specs.declared.parts.Shape.{Shape}
 use Rattle.game_model.proofs.Ceil.{magnitude-is}
 use Rattle.game_model.proofs.Worth.{divisor-is, span-small}
 use Rattle.alpha_set.proofs.Rows.{most}

@@ -1,4 +1,4 @@
-use Rattle.std.proofs.Common.{◌≡◌, ◌<◌, ◌≤◌, ◌*◌, ◌^◌, ℕ, get_or, length, to_z, arith, subst, sym, ap, ◌∙◌}
+use Rattle.std.proofs.Common.{◌≡◌, ◌<◌, ◌≤◌, ◌^◌, ℕ, get_or, to_z, arith, ap, ◌∙◌}
 use Rattle.std.specs.Prelude.{ℤ, pos, unsigned_abs, FitsSigned, ◌*ℤ◌}
 use Rattle.std.specs.Int.{w128}
 use Rattle.std.proofs.lemmas.Int.{fits_signed_from_abs, ints, to_z-of_z, unsigned_abs-mul}
@@ -34,7 +34,7 @@ fits c =
       weight = fits_signed_from_abs w128 x (omega arith);
       reward = fits_signed_from_abs w128 r (omega arith);
       after = next (λ a. get_or c.args.mix.now a (pos 0) *ℤ reward_at g c.args.s a c.args.c) (2 ^ 46) c.loop-a.a (to_z w128 c.loop-a.sum-bits)
-      (rw (unsigned_abs-mul x r) (mul-le (unsigned_abs x) (unsigned_abs r) (2 ^ 16) (2 ^ 30) light paid)) (omega arith) (omega arith) c.loop-a.invariant;
+          (rw (unsigned_abs-mul x r) (mul-le (unsigned_abs x) (unsigned_abs r) (2 ^ 16) (2 ^ 30) light paid)) (omega arith) (omega arith) c.loop-a.invariant;
     }
 
 pub overflow_mul-sum : goal.overflow_mul-sum

@@ -1,7 +1,6 @@
-use Rattle.std.proofs.Common.{List, ◌≡◌, ◌<◌, ◌≤◌, ◌*◌, ◌^◌, ℕ, get_or, length, arith, subst, sym, ap, ◌∙◌}
-use Rattle.std.specs.Prelude.{ℤ, pos, neg_ℤ, unsigned_abs, FitsSigned, ◌+ℤ◌, ◌*ℤ◌, ◌≤ℤ◌, ◌↔◌}
+use Rattle.std.proofs.Common.{List, ◌≡◌, ◌≤◌, ◌*◌, ℕ, get_or, arith, subst, sym, ap, ◌∙◌}
+use Rattle.std.specs.Prelude.{ℤ, pos, neg_ℤ, unsigned_abs, ◌+ℤ◌, ◌*ℤ◌, ◌≤ℤ◌}
 use Rattle.std.specs.Bool.{IsTrue}
-use Rattle.std.specs.Int.{w128}
 use Rattle.std.specs.Int.Signed.{le_z}
 use Rattle.std.proofs.lemmas.Int.{ints, to_z-of_z}
 use Rattle.std.proofs.lemmas.List.{get_or_read}
@@ -9,7 +8,7 @@ use Rattle.scaled_num.proofs.Sums.{each-at}
 use Rattle.game_model.specs.Game.{GameData, IsWithin, numbers, span, unit}
 use Rattle.game_model.specs.Branches.{mix_total}
 use Rattle.game_model.proofs.Width.{at_most}
-use Rattle.alpha_set.specs.Members.{HoldsBy, expected, node_data, paid}
+use Rattle.alpha_set.specs.Members.{expected, node_data, paid}
 use Rattle.alpha_set.specs.Nodes.{node_of}
 use Rattle.alpha_set.proofs.Wide.{SidesFit, left-is, right-is, right_side, scale, sides-fit}
 use Rattle.alpha_set.proofs.stands.holds.Goals as goal
@@ -101,9 +100,10 @@ worth c =
     ∙ ap (λ (z : ℤ). pos earned *ℤ z +ℤ pos (unsigned_abs g.shape.discount.0) *ℤ later) (c.at_once.ensures.exact ∙ ap by_mix c.deref.ensures.value)
 
 tested : (a b x y : ℤ) → a ≡ x → b ≡ y → (IsTrue (le_z a b) → x ≤ℤ y) × (x ≤ℤ y → IsTrue (le_z a b))
-tested a b x y e f =
-    (λ t. subst (λ (z : ℤ). z ≤ℤ y) e (subst (λ (z : ℤ). a ≤ℤ z) f ((at_most a b).0 t)),
-    λ h. (at_most a b).1 (subst (λ (z : ℤ). z ≤ℤ b) (sym e) (subst (λ (z : ℤ). x ≤ℤ z) (sym f) h)))
+tested a b x y e f = (
+  λ t. subst (λ (z : ℤ). z ≤ℤ y) e (subst (λ (z : ℤ). a ≤ℤ z) f ((at_most a b).0 t)),
+  λ h. (at_most a b).1 (subst (λ (z : ℤ). z ≤ℤ b) (sym e) (subst (λ (z : ℤ). x ≤ℤ z) (sym f) h)),
+)
 
 pub returns : goal.returns
 returns c =

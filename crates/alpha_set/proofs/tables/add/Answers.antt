@@ -1,8 +1,8 @@
-use Rattle.std.proofs.Common.{◌≡◌, ◌<◌, ◌≤◌, ◌+◌, ◌^◌, ℕ, length, get_or, arith, refl, subst, sym, ap}
-use Rattle.std.specs.Prelude.{ℤ, pos, unsigned_abs}
+use Rattle.std.proofs.Common.{◌≡◌, ◌≤◌, ◌+◌, ◌^◌, ℕ, get_or, arith, refl, subst, sym}
+use Rattle.std.specs.Prelude.{pos, unsigned_abs}
 use Rattle.std.proofs.lemmas.Int.{to_z-of_z}
 use Rattle.scaled_num.proofs.Sums.{each-at}
-use Rattle.alpha_set.specs.Members.{entry_at, table_place}
+use Rattle.alpha_set.specs.Members.{table_place}
 use Rattle.alpha_set.proofs.Adding.{NextAdded, added-at, next-added}
 use Rattle.alpha_set.proofs.Totals.{abs-within}
 use Rattle.alpha_set.proofs.tables.add.Goals as goal

@@ -1,5 +1,4 @@
-use Rattle.std.proofs.Common.{◌≡◌, ◌<◌, ◌∙◌, List, arith, get_or, length, sym}
-use Rattle.std.specs.Prelude.{ℤ, pos}
+use Rattle.std.proofs.Common.{◌≡◌, ◌∙◌, arith, get_or}
 use Rattle.alpha_set.proofs.Filling.{NextStep, filled-more, filled-none, filled-table, inside-step, next-step, no_step, vector-is, vector_of}
 use Rattle.alpha_set.proofs.tables.fill.Goals as goal
 

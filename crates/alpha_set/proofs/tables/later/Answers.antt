@@ -1,17 +1,14 @@
-use Rattle.std.proofs.Common.{◌≡◌, ◌<◌, ◌≤◌, ◌*◌, ◌^◌, ℕ, to_z, arith, subst, sym, ap, ◌∙◌}
-use Rattle.std.specs.Prelude.{ℤ, pos, unsigned_abs, FitsSigned}
+use Rattle.std.proofs.Common.{◌≤◌, ◌*◌, ◌^◌, to_z, arith, subst}
+use Rattle.std.specs.Prelude.{ℤ, unsigned_abs}
 use Rattle.std.specs.Int.{w128}
-use Rattle.std.proofs.Math.Nat.{mul-le-mul_right}
 use Rattle.std.proofs.lemmas.Int.{to_z-of_z}
 use Rattle.std.proofs.lemmas.Nat.{mul-le}
-use Rattle.scaled_num.specs.Sums.{below, total}
 use Rattle.game_model.specs.Game.{GameData, numbers}
 use Rattle.game_model.specs.Numbers.{over_row}
 use Rattle.alpha_set.specs.Members.{entry_at}
 use Rattle.alpha_set.proofs.Rows.{most, most-small}
 use Rattle.alpha_set.proofs.Totals.{Next, abs-within, next}
 use Rattle.alpha_set.proofs.tables.later.Goals as goal
-
 
 after : (c : goal.After-later_after-sum) →
     Next (λ a. over_row (numbers c.args.game.now) c.args.s a c.args.c (λ o t. entry_at c.args.table.now a o t)) (unsigned_abs c.args.game.now.shape.row_total * most c.args.game.now) c.loop-a.a (to_z w128 c.loop-a.sum-bits)

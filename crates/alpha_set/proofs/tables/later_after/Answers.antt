@@ -1,5 +1,5 @@
-use Rattle.std.proofs.Common.{◌≡◌, ◌<◌, ◌≤◌, ◌*◌, ◌^◌, ℕ, List, length, get_or, take, sum_by, to_z, arith, subst, sym, ap, refl, ◌∙◌}
-use Rattle.std.specs.Prelude.{ℤ, pos, unsigned_abs}
+use Rattle.std.proofs.Common.{◌≡◌, ◌≤◌, ◌*◌, ◌^◌, ℕ, List, take, sum_by, to_z, arith, subst, sym, ap, refl, ◌∙◌}
+use Rattle.std.specs.Prelude.{unsigned_abs}
 use Rattle.std.specs.List.{AllByRecursion}
 use Rattle.std.specs.Int.{w128}
 use Rattle.std.proofs.lemmas.Int.{to_z-of_z}
@@ -8,8 +8,8 @@ use Rattle.scaled_num.specs.Sums.{total}
 use Rattle.game_model.specs.Game.{GameData, IsLanding, row_at}
 use Rattle.game_model.specs.declared.parts.Landing.{Landing}
 use Rattle.game_model.proofs.Games.{row-in, row-weights}
-use Rattle.alpha_set.specs.Members.{entry_at, table_place}
-use Rattle.alpha_set.proofs.Rows.{NextLanding, most, next-landing, none, row-sum, size, term, weights-small}
+use Rattle.alpha_set.specs.Members.{entry_at}
+use Rattle.alpha_set.proofs.Rows.{NextLanding, most, next-landing, row-sum, size, term, weights-small}
 use Rattle.alpha_set.proofs.tables.later_after.Goals as goal
 
 next : (c : goal.After-sum-in-loop-landing-1) → NextLanding c.args.game.now c.row-row.result.now c.args.table.now c.args.a c.loop-landing.landing-index (to_z w128 c.loop-landing.sum-bits)
