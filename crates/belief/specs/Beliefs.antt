@@ -1,5 +1,5 @@
 -- What beliefs and mixes keep, and the functions that clauses read from them.
-use Rattle.std.specs.Prelude.{ℕ, ℤ, pos, List, length, replicate, ◌≤◌, ◌≡◌, slice_index_or, slice_set, unsigned_abs}
+use Rattle.std.specs.Prelude.{ℕ, ℤ, pos, List, length, replicate, ◌≤◌, slice_index_or, slice_set, unsigned_abs}
 use Rattle.game_model.specs.Game.{AreCoprime, GameData, IsBelief}
 use Rattle.belief.specs.Mixes.{AreMixes, MixesData, mix_at}
 

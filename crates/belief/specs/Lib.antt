@@ -1,2 +1,3 @@
 pub mod Mixes
 pub mod Beliefs
+pub mod Masses

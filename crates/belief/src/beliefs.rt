@@ -116,7 +116,9 @@ impl Belief {
 fn are_weights(weights: &[i128]) -> bool
     ensures { IsTrue result ↔ AllByRecursion (IsWithin (pos 0) (pos (2 ^ 20))) weights.now }
 {
-    weights.iter().all(|weight| 0 <= *weight && *weight <= MOST_BELIEF)
+    weights
+        .iter()
+        .all(|weight| 0 <= *weight && *weight <= MOST_BELIEF)
 }
 
 /// Whether this is the total of a belief.

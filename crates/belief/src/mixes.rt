@@ -1,6 +1,8 @@
 ghost use Rattle.belief.specs.Beliefs.{AreKept, mixes_for};
 ghost use Rattle.belief.specs.Mixes.{AreMixes, mix_at};
-ghost use Rattle.std.specs.Prelude.{IfOk, length, ◌<◌, ◌≡◌};
+ghost use Rattle.game_model.specs.Branches.{mix_total};
+ghost use Rattle.game_model.specs.Game.{IsWithin};
+ghost use Rattle.std.specs.Prelude.{IfOk, pos, ◌<◌, ◌≡◌};
 
 use game_model::{Game, law_game};
 use std::alloc::{AllocError, Global};
@@ -65,7 +67,8 @@ impl Mixes {
     pub fn get(&self, s: u32, c: u32) -> i128
         requires state { s < self.now.states }
         requires action { c < self.now.actions }
-        ensures { result ≡ mix_at self.now s c }
+        ensures weight { result ≡ mix_at self.now s c }
+        ensures small { IsWithin (pos 0) (pos mix_total) result }
     {
         self.weights[s as usize * self.actions as usize + c as usize]
     }

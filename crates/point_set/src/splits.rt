@@ -8,7 +8,7 @@ ghost use Rattle.std.specs.Prelude.{IfSome, IsNone, filter, length, map, pos, su
 
 use crate::points::{Point, Share};
 use belief::mass;
-use game_model::{Game, MOST_STATES};
+use game_model::{Game, MOST_STATES, law_game};
 
 /// The first place at which the split rule fails, by own action, observation and next state.
 pub fn first_split(game: &Game, points: &[Point], point: &Point) -> Option<(u32, u32, u32)>
@@ -47,6 +47,7 @@ fn first_state(game: &Game, points: &[Point], point: &Point, a: u32, o: u32) -> 
     ensures none { IsNone result → (t : ℕ) → t < game.now.shape.states → SplitHolds (numbers game.now) (points_of (data_of points.now)) (point_of (point_data point.now)) a o t }
     ensures first { IfSome result (λ t. FailsFirstAt (numbers game.now) (points_of (data_of points.now)) (point_of (point_data point.now)) a o t) }
 {
+    law_game(game);
     let mut masses = [0; MOST_STATES];
     let masses = &mut masses[..game.states() as usize];
     mass(game, &point.belief, &point.mixes, a, o, masses);

@@ -7,7 +7,7 @@ ghost use Rattle.point_set.specs.Points.{ValueHolds, point_of, points_of};
 ghost use Rattle.scaled_num.specs.Sums.{below, total};
 ghost use Rattle.std.specs.Bool.{IsTrue};
 ghost use Rattle.std.specs.List.{AllByRecursion};
-ghost use Rattle.std.specs.Prelude.{IfSome, IsNone, filter, map, pos, sum_by, ◌*ℤ◌, ◌<◌, ◌^◌, ◌↔◌, ◌≡◌, ◌≤◌};
+ghost use Rattle.std.specs.Prelude.{IfSome, IsNone, filter, map, pos, sum_by, unsigned_abs, ◌*ℤ◌, ◌<◌, ◌^◌, ◌↔◌, ◌≡◌, ◌≤◌};
 
 use crate::points::{Point, Share};
 use crate::splits::shares_after;
@@ -69,7 +69,8 @@ fn mixed_reward(game: &Game, mixes: &Mixes, s: u32, a: u32) -> i128
     requires actions { mixes.now.actions ≡ game.now.shape.informed_actions }
     requires state { s < game.now.shape.states }
     requires own { a < game.now.shape.own_actions }
-    ensures { result ≡ row_rewards game.now mixes.now a s }
+    ensures exact { result ≡ row_rewards game.now mixes.now a s }
+    ensures small { unsigned_abs result ≤ 2 ^ 49 }
 {
     law_game(game);
     let mut sum = 0;

@@ -1,4 +1,4 @@
-use Rattle.std.proofs.Common.{rules, ◌≡◌, ℕ, subst, arith}
+use Rattle.std.proofs.Common.{rules, ◌≡◌, ℕ, subst}
 use Rattle.std.specs.Int.{◌∣◌}
 use Rattle.std.proofs.Math.Nat.{eq-one_of_dvd-one}
 use Rattle.belief.proofs.beliefs.are_coprime.Goals as goal

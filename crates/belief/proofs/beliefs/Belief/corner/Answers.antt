@@ -1,5 +1,4 @@
 use Rattle.std.proofs.Common.{subst, sym}
-use Rattle.std.specs.Prelude.{List, ℤ}
 use Rattle.belief.specs.Beliefs.{AreParts}
 use Rattle.belief.proofs.Parts.{corner-front, corner-parts}
 use Rattle.belief.proofs.beliefs.Belief.corner.Goals as goal

@@ -1,9 +1,8 @@
-use Rattle.std.proofs.Common.{rules, refl, length, ◌≡◌, ◌^◌, arith, subst}
-use Rattle.std.specs.Prelude.{ℤ, pos, FitsSigned}
+use Rattle.std.proofs.Common.{rules, refl, ◌^◌, subst}
+use Rattle.std.specs.Prelude.{pos, FitsSigned}
 use Rattle.std.specs.Int.{w128}
 use Rattle.std.proofs.lemmas.Int.{to_z-of_z}
-use Rattle.game_model.specs.Game.{AreCoprime, IsBelief, IsWithin}
-use Rattle.belief.specs.Beliefs.{AreParts}
+use Rattle.game_model.specs.Game.{IsWithin}
 use Rattle.belief.proofs.beliefs.Belief.of.Goals as goal
 
 pub of_parts-requires : goal.of_parts-requires

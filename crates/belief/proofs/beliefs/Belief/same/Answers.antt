@@ -1,5 +1,4 @@
-use Rattle.std.proofs.Common.{subst, sym, ◌≡◌, ◌∙◌}
-use Rattle.std.specs.Bool.{IsTrue}
+use Rattle.std.proofs.Common.{sym, ◌∙◌}
 use Rattle.std.specs.Cmp.{signed_Decides}
 use Rattle.std.proofs.lemmas.Slice.Eq.{slice_eq-Decides}
 use Rattle.belief.proofs.beliefs.Belief.same.Goals as goal
