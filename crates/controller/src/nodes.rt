@@ -5,7 +5,7 @@ ghost use Rattle.game_model.specs.Game.{IsWithin, numbers, span};
 ghost use Rattle.scaled_num.specs.Sums.{sum_of, total};
 ghost use Rattle.std.specs.Bool.{IsTrue};
 ghost use Rattle.std.specs.List.{AllByRecursion};
-ghost use Rattle.std.specs.Prelude.{length, map, neg_ℤ, pos, slice_index_or, ℕ, ◌<◌, ◌^◌, ◌↔◌, ◌≡◌, ◌≤◌};
+ghost use Rattle.std.specs.Prelude.{if◌then◌else◌, length, map, neg_ℤ, pos, slice_index_or, ℕ, ◌&&◌, ◌<◌, ◌==◌, ◌^◌, ◌↔◌, ◌≡◌, ◌≤◌};
 
 use alpha_set::{Node, NodeSet, Step};
 use game_model::{Game, law_game};
@@ -40,7 +40,12 @@ fn node_fits(game: &Game, count: u32, node: &Node) -> bool
 fn are_within(numbers: &[i128], low: i128, high: i128) -> bool
     ensures { IsTrue result ↔ AllByRecursion (IsWithin low high) numbers.now }
 {
-    numbers.iter().all(|x| low <= *x && *x <= high)
+    for x in numbers {
+        if *x < low || high < *x {
+            return false;
+        }
+    }
+    true
 }
 
 /// Whether these are the weights of a mix of the own actions.
@@ -66,7 +71,19 @@ fn sum(weights: &[i128]) -> i128
 fn are_steps(game: &Game, count: u32, next: &[Step]) -> bool
     ensures { IsTrue result ↔ AreBranches (numbers game.now) count (pos mix_total) (map branch_of next.now) }
 {
-    are_rising(next) && next.iter().all(|step| is_step(game, count, step))
+    are_rising(next) && are_in_range(game, count, next)
+}
+
+/// Whether each step is in range.
+fn are_in_range(game: &Game, count: u32, next: &[Step]) -> bool
+    ensures { IsTrue result ↔ AllByRecursion (λ step. IsBranch (numbers game.now) count (pos mix_total) (branch_of step)) next.now }
+{
+    for step in next {
+        if !is_step(game, count, step) {
+            return false;
+        }
+    }
+    true
 }
 
 /// Whether a step is in range and names one of so many nodes.
@@ -106,10 +123,21 @@ fn sums_are(game: &Game, node: &Node) -> bool
     ensures { IsTrue result ↔ ((a o : ℕ) → a < game.now.shape.own_actions → o < game.now.shape.observations → total (λ b. b.weight) (branches_at (node_data node.now).next a o) ≡ slice_index_or (node_data node.now).mix a (pos 0)) }
 {
     for a in 0..game.own_actions() {
-        for o in 0..game.observations() {
-            if weight_after(&node.next, a, o) != node.mix[a as usize] {
-                return false;
-            }
+        if !sums_are_after(game, &node.next, a, node.mix[a as usize]) {
+            return false;
+        }
+    }
+    true
+}
+
+/// Whether after an own action and each observation the steps have a weight.
+fn sums_are_after(game: &Game, next: &[Step], a: u32, weight: i128) -> bool
+    requires { AllByRecursion (λ step. IsWithin (pos 1) (pos mix_total) step.weight) (map branch_of next.now) }
+    ensures { IsTrue result ↔ ((o : ℕ) → o < game.now.shape.observations → total (λ b. b.weight) (branches_at (map branch_of next.now) a o) ≡ weight) }
+{
+    for o in 0..game.observations() {
+        if weight_after(next, a, o) != weight {
+            return false;
         }
     }
     true
@@ -122,9 +150,14 @@ fn weight_after(next: &[Step], a: u32, o: u32) -> i128
 {
     let mut sum = 0;
     for step in next {
-        if step.a == a && step.o == o {
-            sum += step.weight;
-        }
+        sum += weight_of(step, a, o);
     }
     sum
+}
+
+/// The weight of a step after this own action and this observation, 0 after others.
+fn weight_of(step: &Step, a: u32, o: u32) -> i128
+    ensures { result ≡ (if (step.now.a == a) && (step.now.o == o) then step.now.weight else pos 0) }
+{
+    if step.a == a && step.o == o { step.weight } else { 0 }
 }

@@ -5,8 +5,9 @@ ghost use Rattle.point_set.specs.Points.{PointFits, most_share};
 ghost use Rattle.scaled_num.specs.Sums.{sum_of};
 ghost use Rattle.std.specs.Bool.{IsTrue};
 ghost use Rattle.std.specs.List.{AllByRecursion};
-ghost use Rattle.std.specs.Prelude.{length, map, neg_ℤ, pos, ◌*ℤ◌, ◌<◌, ◌↔◌, ◌≡◌, ◌≤◌};
+ghost use Rattle.std.specs.Prelude.{length, map, neg_ℤ, pos, unsigned_abs, ◌*ℤ◌, ◌<◌, ◌^◌, ◌↔◌, ◌≡◌, ◌≤◌};
 
+use belief::Belief;
 use game_model::{Game, law_game};
 use point_set::{Point, PointSet, Share};
 
@@ -40,16 +41,37 @@ fn point_fits(game: &Game, count: u32, point: &Point) -> bool
 fn is_value(game: &Game, point: &Point) -> bool
     ensures { IsTrue result ↔ IsWithin (neg_ℤ (pos (span game.now) *ℤ sum_of point.now.belief)) (pos (span game.now) *ℤ sum_of point.now.belief) point.now.value }
 {
-    law_game(game);
-    let most = game.span() * point.belief.total();
+    let most = most_value(game, &point.belief);
     -most <= point.value && point.value <= most
+}
+
+/// The span times the total of a belief.
+fn most_value(game: &Game, belief: &Belief) -> i128
+    ensures exact { result ≡ pos (span game.now) *ℤ sum_of belief.now }
+    ensures small { unsigned_abs result ≤ 2 ^ 86 }
+{
+    law_game(game);
+    let _parts = belief.parts();
+    game.span() * belief.total()
 }
 
 /// Whether the shares rise, and each is in range.
 fn are_shares(game: &Game, count: u32, splits: &[Share]) -> bool
     ensures { IsTrue result ↔ AreBranches (numbers game.now) count most_share (map branch_of splits.now) }
 {
-    are_rising(splits) && splits.iter().all(|share| is_share(game, count, share))
+    are_rising(splits) && are_in_range(game, count, splits)
+}
+
+/// Whether each share is in range.
+fn are_in_range(game: &Game, count: u32, splits: &[Share]) -> bool
+    ensures { IsTrue result ↔ AllByRecursion (λ share. IsBranch (numbers game.now) count most_share (branch_of share)) splits.now }
+{
+    for share in splits {
+        if !is_share(game, count, share) {
+            return false;
+        }
+    }
+    true
 }
 
 /// Whether a share is in range and names one of so many points.
