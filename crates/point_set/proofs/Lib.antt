@@ -1,3 +1,5 @@
 pub mod Shares
 pub mod Running
 pub mod Named
+pub mod Masses
+pub mod Worth

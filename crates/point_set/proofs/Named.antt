@@ -1,6 +1,6 @@
 -- Points by number, and what shares bring.
-use Rattle.std.proofs.Common.{◌≡◌, ℕ, zero, suc, ◌+◌, ◌*◌, ◌^◌, ◌<◌, ◌≤◌, Bool, true, false, cond, ◌==◌, ◌&&◌, List, [], ◌∷◌, length, get_or, map, filter, take, refl, ap, arith, sym, subst, ◌∙◌}
-use Rattle.std.specs.Prelude.{ℤ, pos, ◌+ℤ◌, ◌*ℤ◌, ◌≤ℤ◌, unsigned_abs, FitsSigned, sum_by}
+use Rattle.std.proofs.Common.{◌≡◌, ℕ, ◌+◌, ◌*◌, ◌^◌, ◌<◌, ◌≤◌, true, false, cond, ◌==◌, ◌&&◌, List, [], ◌∷◌, length, get_or, map, filter, take, refl, ap, arith, sym, subst, ◌∙◌}
+use Rattle.std.specs.Prelude.{ℤ, pos, ◌+ℤ◌, ◌*ℤ◌, unsigned_abs, FitsSigned, sum_by}
 use Rattle.std.proofs.Common.{of_z, to_z}
 use Rattle.std.specs.List.{AllByRecursion}
 use Rattle.std.specs.Int.{w128}
@@ -8,19 +8,17 @@ use Rattle.std.proofs.lemmas.Int.{ints, fits_signed_from_abs, to_z-of_z}
 use Rattle.std.proofs.lemmas.Nat.{mul-le}
 use Rattle.std.proofs.lemmas.List.{get_or-map}
 use Rattle.std.proofs.lemmas.List.Sums.{sum_by_more}
-use Rattle.scaled_num.specs.Sums.{total}
-use Rattle.scaled_num.proofs.Sums.{each-at, sum_by-map, total-map}
+use Rattle.scaled_num.proofs.Sums.{each-at, sum_by-map}
 use Rattle.game_model.specs.Branches.{Branch, IsBranch}
 use Rattle.game_model.specs.Numbers.{Numbers}
 use Rattle.game_model.proofs.Pay.{each-from}
 use Rattle.belief.proofs.Landings.{each-filter}
-use Rattle.game_model.specs.Game.{GameData, IsBelief, IsWithin, numbers}
+use Rattle.game_model.specs.Game.{GameData, IsWithin, numbers}
 use Rattle.game_model.proofs.Ceil.{magnitude-is}
 use Rattle.game_model.proofs.Front.{length-map}
-use Rattle.belief.specs.Beliefs.{weight_at}
-use Rattle.belief.proofs.Sums.{magnitude-small, weight-small}
-use Rattle.point_set.specs.Members.{IsAfter, IsMember, IsNamed, branch_of, brought, counted, data_of, most_points, point_data}
-use Rattle.point_set.specs.Points.{Point, PointFits, Share, SplitHolds, mass, most_share, no_point, point_of, points_of, share_of, shared, shares_at}
+use Rattle.belief.proofs.Sums.{magnitude-small}
+use Rattle.point_set.specs.Members.{IsAfter, IsMember, IsNamed, branch_of, brought, data_of, most_points, point_data}
+use Rattle.point_set.specs.Points.{Point, PointFits, Share, SplitHolds, mass, most_share, no_point, point_of, points_of, share_of, shared}
 use Rattle.point_set.specs.declared.points.Point.{Point as PointParts}
 use Rattle.point_set.specs.declared.points.Share.{Share as ShareParts}
 use Rattle.point_set.proofs.Shares.{few-shares, no_share}
@@ -83,7 +81,7 @@ shared-is points p a o t =
     ∙ sum_by-map (λ (share : Share). share.weight * (points share.point).belief t) share_of (map branch_of (filter (IsAfter a o) p.splits.items))
     ∙ sum_by-map (λ (b : Branch). unsigned_abs b.weight * (points b.member).belief t) branch_of (filter (IsAfter a o) p.splits.items)
 
-each-of-map : {X Y : Type 0} (P : Y → Type 0) (f : X → Y) (xs : List X) → AllByRecursion P (map f xs) → AllByRecursion (λ x. P (f x)) xs
+pub each-of-map : {X Y : Type 0} (P : Y → Type 0) (f : X → Y) (xs : List X) → AllByRecursion P (map f xs) → AllByRecursion (λ x. P (f x)) xs
 each-of-map P f [] h = tt
 each-of-map P f (x ∷ xs) h = (h.0, each-of-map P f xs h.1)
 
@@ -104,7 +102,7 @@ shares-fit g points p h a o =
       named = each-filter (IsNamed points) (IsAfter a o) xs (named-all g points p h);
       few = few-shares a o most_points xs h.fits.splits.rising (each-from (λ (x : ShareParts). IsBranch (numbers g) most_points most_share (branch_of x)) (λ (x : ShareParts). x.k < most_points) xs (λ x i. i.member) each);
       weights = each-filter (λ (x : ShareParts). IsWithin (pos 1) most_share x.weight) (IsAfter a o) xs
-      (each-from (λ (x : ShareParts). IsBranch (numbers g) most_points most_share (branch_of x)) (λ (x : ShareParts). IsWithin (pos 1) most_share x.weight) xs (λ x i. i.weight) each);
+          (each-from (λ (x : ShareParts). IsBranch (numbers g) most_points most_share (branch_of x)) (λ (x : ShareParts). IsWithin (pos 1) most_share x.weight) xs (λ x i. i.weight) each);
     }
 
 -- the test of a split place

@@ -1,10 +1,10 @@
 -- Running sums of signed products, and how large they are.
-use Rattle.std.proofs.Common.{◌≡◌, ℕ, zero, suc, ◌+◌, ◌-◌, ◌*◌, ◌^◌, ◌<◌, ◌≤◌, List, [], ◌∷◌, length, get_or, take, refl, ap, arith, sym, subst, ◌∙◌, add-one}
-use Rattle.std.specs.Prelude.{ℤ, pos, ◌+ℤ◌, ◌*ℤ◌, ◌≤ℤ◌, unsigned_abs, FitsSigned, sum_by}
+use Rattle.std.proofs.Common.{◌≡◌, ℕ, zero, suc, ◌+◌, ◌-◌, ◌*◌, ◌^◌, ◌<◌, ◌≤◌, List, [], ◌∷◌, length, get_or, take, ap, arith, sym, subst, ◌∙◌, add-one}
+use Rattle.std.specs.Prelude.{ℤ, pos, ◌+ℤ◌, ◌*ℤ◌, unsigned_abs, FitsSigned, sum_by}
 use Rattle.std.specs.List.{range_with_len}
 use Rattle.std.specs.Int.{w128}
 use Rattle.std.proofs.lemmas.Int.{ints, fits_signed_from_abs, unsigned_abs-mul}
-use Rattle.std.proofs.lemmas.List.Sums.{sum_by_more, sum_by_more_le}
+use Rattle.std.proofs.lemmas.List.Sums.{sum_by-cons, sum_by_more, sum_by_more_le}
 use Rattle.scaled_num.specs.Sums.{below, total}
 use Rattle.game_model.proofs.Sizes.{total-more}
 use Rattle.belief.proofs.Sums.{sum-below-more}
@@ -17,12 +17,14 @@ total-range-more f a zero = one (f a) ∙ ap (λ (k : ℕ). pos 0 +ℤ f k) (sam
   where
     one : (z : ℤ) → z +ℤ pos 0 ≡ pos 0 +ℤ z
     one z = omega (arith, ints)
+
     same : (a : ℕ) → a ≡ a + 0
     same a = omega arith
 total-range-more f a (suc n) = ap (λ (z : ℤ). f a +ℤ z) (total-range-more f (a + 1) n ∙ ap (λ (k : ℕ). total f (range_with_len (a + 1) n) +ℤ f k) (same a n)) ∙ regroup (f a) (total f (range_with_len (a + 1) n)) (f (a + suc n))
   where
     same : (a n : ℕ) → a + 1 + n ≡ a + suc n
     same a n = omega arith
+
     regroup : (x y z : ℤ) → x +ℤ (y +ℤ z) ≡ x +ℤ y +ℤ z
     regroup x y z = omega (arith, ints)
 
@@ -103,3 +105,11 @@ next-sum f h n m x z l e lx room is small =
       is = ap (λ (w : ℤ). w +ℤ x) is ∙ ap (λ (w : ℤ). total f (below n) +ℤ w) (sym e) ∙ sym (total-below-more f n);
       small = more;
     }
+
+-- a sum is no larger than the sum of the magnitudes
+pub total-size : {X : Type 0} (f : X → ℤ) (xs : List X) → unsigned_abs (total f xs) ≤ sum_by (λ x. unsigned_abs (f x)) xs
+total-size f [] = omega arith
+total-size f (x ∷ xs) = rw (sum_by-cons (λ k. unsigned_abs (f k)) x xs) (omega (arith, abs-add (f x) (total f xs), total-size f xs))
+
+pub at-most-sum : (h : ℕ → ℕ) (n m : ℕ) → n < m → h n ≤ sum_by h (below m)
+at-most-sum h n m l = omega (arith, sum-below-more h n, sum-below-le h (n + 1) m (omega arith))

@@ -104,12 +104,13 @@ few-from a o most m [] rising named from l = omega arith
 few-from a o most m (x ∷ xs) rising named from l =
     elim (IsAfter a o x) as (λ b. IsAfter a o x ≡ b → length (cond b (x ∷ filter (IsAfter a o) xs) (filter (IsAfter a o) xs)) + m ≤ most) [
       | true ↦ (λ e. let low : m ≤ x.k = from.0 e in
-        omega (arith, few-from a o most (x.k + 1) xs (rest-rises x xs rising) named.1 (each-from (IsLater x) _ xs (λ y k f. above x y e k f) (later x xs rising)) (omega (arith, named.0))))
+          omega (arith, few-from a o most (x.k + 1) xs (rest-rises x xs rising) named.1 (each-from (IsLater x) _ xs (λ y k f. above x y e k f) (later x xs rising)) (omega (arith, named.0))))
       | false ↦ (λ e. few-from a o most m xs (rest-rises x xs rising) named.1 from.1 l)
     ] refl
   where
     members : (x y : ShareParts) → x.a ≡ a → x.o ≡ o → y.a ≡ a → y.o ≡ o → IsLater x y → x.k + 1 ≤ y.k
     members x y p q r s h = search arith
+
     above : (x y : ShareParts) → IsAfter a o x ≡ true → IsLater x y → IsAfter a o y ≡ true → x.k + 1 ≤ y.k
     above x y e h f = let i = (after-decides a o x).0 e in let j = (after-decides a o y).0 f in members x y i.0 i.1 j.0 j.1 h
 

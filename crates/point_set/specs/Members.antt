@@ -1,12 +1,12 @@
 -- Points and shares of the program as the data that the rules speak of.
-use Rattle.std.specs.Prelude.{ℕ, ℤ, pos, Bool, List, length, map, filter, sum_by, unsigned_abs, ◌*◌, ◌*ℤ◌, ◌<◌, ◌≤◌, ◌==◌, ◌&&◌}
+use Rattle.std.specs.Prelude.{ℕ, ℤ, pos, Bool, List, length, map, filter, sum_by, unsigned_abs, ◌*◌, ◌*ℤ◌, ◌<◌, ◌==◌, ◌&&◌}
 use Rattle.std.specs.List.{AllByRecursion}
 use Rattle.scaled_num.specs.Sums.{below, total}
 use Rattle.game_model.specs.Branches.{Branch}
 use Rattle.game_model.specs.Game.{GameData, reward_at}
 use Rattle.belief.specs.Beliefs.{mix_weight}
 use Rattle.belief.specs.Mixes.{MixesData}
-use Rattle.point_set.specs.Points.{Point, PointData, PointFits, points_of}
+use Rattle.point_set.specs.Points.{Point, PointData, PointFits}
 use Rattle.point_set.specs.declared.points.Point.{Point as PointParts}
 use Rattle.point_set.specs.declared.points.Share.{Share as ShareParts}
 

@@ -1,5 +1,4 @@
-use Rattle.std.proofs.Common.{ℕ, ◌<◌, refl, sym, subst}
-use Rattle.std.specs.Prelude.{IsNone}
+use Rattle.std.proofs.Common.{ℕ, ◌<◌, refl}
 use Rattle.game_model.specs.Game.{numbers}
 use Rattle.point_set.specs.Members.{data_of, point_data}
 use Rattle.point_set.specs.Points.{SplitHolds, point_of, points_of}

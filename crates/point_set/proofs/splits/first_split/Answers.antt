@@ -1,6 +1,5 @@
-use Rattle.std.proofs.Common.{rules, ℕ, ◌≡◌, ◌<◌, refl, sym, subst, arith, inl, inr}
+use Rattle.std.proofs.Common.{rules, ℕ, ◌<◌, refl, sym, subst, arith, inl, inr}
 use Rattle.game_model.specs.Game.{numbers}
-use Rattle.point_set.specs.Faults.{IsPlaceBefore}
 use Rattle.point_set.specs.Members.{data_of, point_data}
 use Rattle.point_set.specs.Points.{SplitHolds, point_of, points_of}
 use borrow.Author.Count.{below_more}

@@ -1,5 +1,5 @@
-use Rattle.std.proofs.Common.{rules, ◌≡◌, ◌<◌, ◌≤◌, ◌*◌, ◌^◌, ◌∙◌, List, ap, length, get_or, sym, subst, arith, ℕ}
-use Rattle.std.specs.Prelude.{ℤ, pos, ◌*ℤ◌, FitsSigned, unsigned_abs}
+use Rattle.std.proofs.Common.{◌≡◌, ◌<◌, ◌^◌, ◌∙◌, List, ap, length, get_or, sym, subst, ℕ}
+use Rattle.std.specs.Prelude.{ℤ, pos, unsigned_abs}
 use Rattle.std.proofs.lemmas.Int.{to_z-of_z}
 use Rattle.scaled_num.proofs.Sums.{each-at}
 use Rattle.game_model.specs.Game.{IsWithin}

@@ -1,4 +1,4 @@
-use Rattle.std.proofs.Common.{rules, ℕ, ◌-◌, ◌≡◌, ◌≤◌, List, length, take, drop}
+use Rattle.std.proofs.Common.{rules, ℕ, ◌-◌, ◌≤◌, List, length, take, drop}
 use Rattle.std.proofs.lemmas.List.Sorted.{IsPartitionPoint-from_clause}
 use Rattle.belief.proofs.Windows.{rest-is}
 use Rattle.point_set.specs.Members.{IsAfter}
