@@ -2,11 +2,11 @@
 #![tactic(auto)]
 
 mod bounds;
-mod check;
+mod checker;
 mod members;
 #[cfg(test)]
 mod tests;
 mod verdicts;
 
-pub use check::{check, law_once};
+pub use checker::{check, law_once};
 pub use verdicts::{Reason, Verdict};

@@ -1,0 +1,3 @@
+pub mod First
+pub mod Order
+pub mod Fits
