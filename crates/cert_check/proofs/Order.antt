@@ -9,7 +9,7 @@ use Rattle.alpha_set.specs.Faults.{NodeFailsFirst}
 use Rattle.alpha_set.specs.Nodes.{NodeStands, nodes_of}
 use Rattle.point_set.specs.Faults.{SplitFailsFirst, ValueFailsFirst}
 use Rattle.point_set.specs.Points.{PointStands, points_of}
-use Rattle.controller.specs.Certificates.{CertificateData, CornerAt, Holds, NodeAt, Place, SplitAt, ValueAt, corner_places, node_places, point_places, split_places, value_places}
+use Rattle.controller.specs.Certificates.{CertificateData, CornerAt, FailsFirst, Holds, NodeAt, Place, SplitAt, ValueAt, corner_places, places, split_places, value_places}
 use Rattle.cert_check.specs.Verdicts.{FirstIn}
 use Rattle.cert_check.proofs.First.{all-flat, all-map, first-flat, first-head, first-left, first-map, first-right}
 
@@ -72,3 +72,10 @@ value-fails g k j a h =
     all-flat (Holds g k) _ g.shape.observations (λ o lo.
     all-map (Holds g k) (λ s. SplitAt j b o s) g.shape.states (λ s ls. h.splits b o s lb lo ls))))
     (first-map (Holds g k) (λ b. ValueAt j b) g.shape.own_actions a h.own (λ b lb. h.before b lb) h.fails)
+
+-- the first place at which a certificate fails
+pub first-in : (g : GameData) (k : CertificateData) (place : Place) → FailsFirst g k place → FirstIn (Holds g k) (places g k) place
+first-in g k place f = record { before = f.before; after = f.after; order = f.order; holds = f.holds; fails = f.fails }
+
+pub fails-first : (g : GameData) (k : CertificateData) (place : Place) → FirstIn (Holds g k) (places g k) place → FailsFirst g k place
+fails-first g k place f = record { before = f.before; after = f.after; order = f.order; holds = f.holds; fails = f.fails }
