@@ -1,3 +1,4 @@
 pub mod First
 pub mod Order
 pub mod Fits
+pub mod Gap

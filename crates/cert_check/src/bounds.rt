@@ -1,9 +1,12 @@
 ghost use Rattle.cert_check.specs.Verdicts.{FirstIn, place_of};
-ghost use Rattle.controller.specs.Certificates.{BoundAt, CertificateFits, Holds, IsFraction, IsWithinGap, OutcomeAt, StartAt, start_product};
+ghost use Rattle.controller.specs.Certificates.{BoundAt, CertificateFits, Holds, IsFraction, IsWithinGap, OutcomeAt, StartAt, first_total, start_product};
 ghost use Rattle.controller.specs.Data.{certificate_data, fraction_data};
+ghost use Rattle.game_model.specs.Game.{IsWithin, unit};
+ghost use Rattle.point_set.specs.Points.{points_of};
+ghost use Rattle.scaled_num.specs.Sums.{below, total};
 ghost use Rattle.std.specs.Bool.{IsTrue};
 ghost use Rattle.std.specs.List.{AllByRecursion};
-ghost use Rattle.std.specs.Prelude.{IfSome, IsNone, [], ◌∷◌, ◌↔◌, ◌≡◌};
+ghost use Rattle.std.specs.Prelude.{IfSome, IsNone, [], length, pos, slice_index_or, unsigned_abs, ℕ, ◌*◌, ◌*ℤ◌, ◌^◌, ◌∷◌, ◌↔◌, ◌≡◌, ◌≤◌};
 
 use crate::verdicts::Reason;
 use controller::{Certificate, Outcome};
@@ -33,7 +36,15 @@ fn starts_right(game: &Game, certificate: &Certificate) -> bool
     requires { CertificateFits game.now (certificate_data certificate.now) }
     ensures { IsTrue result ↔ Holds game.now (certificate_data certificate.now) StartAt }
 {
-    certificate.points.point(certificate.start_point).belief.parts() == game.first()
+    let start = certificate.points.point(certificate.start_point);
+    are_same(start.belief.parts(), game.first())
+}
+
+/// Whether two lists of weights are equal.
+fn are_same(weights: &[i128], others: &[i128]) -> bool
+    ensures { IsTrue result ↔ (weights.now ≡ others.now) }
+{
+    weights == others
 }
 
 /// Whether the bounds and the tail are those of the starts and the span.
@@ -41,11 +52,27 @@ fn bounds_are(game: &Game, certificate: &Certificate) -> bool
     requires { CertificateFits game.now (certificate_data certificate.now) }
     ensures { IsTrue result ↔ Holds game.now (certificate_data certificate.now) BoundAt }
 {
+    let scale = bound_scale(game);
+    let lower_is = is_fraction(&certificate.lower, start_worth(game, certificate), scale);
+    let upper_is = is_fraction(&certificate.upper, start_value(game, certificate), scale);
+    let tail_is = is_fraction(&certificate.tail, game.span(), UNITS);
+    lower_is && upper_is && tail_is
+}
+
+/// The denominator of both bounds: the total of the first belief, times the units of a reward.
+fn bound_scale(game: &Game) -> i128
+    ensures { result ≡ pos (first_total game.now * unit) }
+{
     law_game(game);
-    let scale = game.first_total() * UNITS;
-    is_fraction(&certificate.lower, start_worth(game, certificate), scale)
-        && is_fraction(&certificate.upper, certificate.points.point(certificate.start_point).value, scale)
-        && is_fraction(&certificate.tail, game.span(), UNITS)
+    game.first_total() * UNITS
+}
+
+/// The value of the start point.
+fn start_value(game: &Game, certificate: &Certificate) -> i128
+    requires { CertificateFits game.now (certificate_data certificate.now) }
+    ensures { result ≡ (points_of (certificate_data certificate.now).points certificate.now.start_point).value }
+{
+    certificate.points.point(certificate.start_point).value
 }
 
 /// Whether a fraction has this numerator and this denominator.
@@ -61,11 +88,21 @@ fn start_worth(game: &Game, certificate: &Certificate) -> i128
     ensures { result ≡ start_product game.now (certificate_data certificate.now) }
 {
     law_game(game);
-    let vector = &certificate.nodes.node(certificate.start_node).vector;
-    let first = game.first();
+    let start = certificate.nodes.node(certificate.start_node);
+    product(game.first(), &start.vector)
+}
+
+/// The sum of weights times the entries of a vector.
+fn product(weights: &[i128], vector: &[i128]) -> i128
+    requires weights { AllByRecursion (IsWithin (pos 0) (pos (2 ^ 20))) weights.now }
+    requires few { length weights.now ≤ 16 }
+    requires long { length vector.now ≡ length weights.now }
+    requires entries { AllByRecursion (λ x. unsigned_abs x ≤ 2 ^ 66) vector.now }
+    ensures { result ≡ total (λ s. slice_index_or weights.now s (pos 0) *ℤ slice_index_or vector.now s (pos 0)) (below (length weights.now)) }
+{
     let mut sum = 0;
-    for s in 0..game.states() as usize {
-        sum += first[s] * vector[s];
+    for s in 0..weights.len() {
+        sum += weights[s] * vector[s];
     }
     sum
 }
