@@ -53,10 +53,13 @@ fn bounds_are(game: &Game, certificate: &Certificate) -> bool
     ensures { IsTrue result ↔ Holds game.now (certificate_data certificate.now) BoundAt }
 {
     let scale = bound_scale(game);
-    let lower_is = is_fraction(&certificate.lower, start_worth(game, certificate), scale);
-    let upper_is = is_fraction(&certificate.upper, start_value(game, certificate), scale);
-    let tail_is = is_fraction(&certificate.tail, game.span(), UNITS);
-    lower_is && upper_is && tail_is
+    if !is_fraction(&certificate.lower, start_worth(game, certificate), scale) {
+        return false;
+    }
+    if !is_fraction(&certificate.upper, start_value(game, certificate), scale) {
+        return false;
+    }
+    is_fraction(&certificate.tail, game.span(), UNITS)
 }
 
 /// The denominator of both bounds: the total of the first belief, times the units of a reward.
