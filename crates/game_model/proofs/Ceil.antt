@@ -1,6 +1,6 @@
 -- A quotient rounded up is the least number whose product with the divisor is no less.
-use Rattle.std.proofs.Common.{◌≡◌, ℕ, zero, suc, ◌^◌, ◌+◌, ◌-◌, ◌*◌, ◌/◌, ◌<◌, ◌≤◌, ap, arith, refl}
-use Rattle.game_model.specs.Build.{span_from}
+use Rattle.std.proofs.Common.{◌≡◌, ℕ, zero, suc, ◌^◌, ◌+◌, ◌-◌, ◌*◌, ◌/◌, ◌≤◌, ap, arith, refl}
+use Rattle.game_model.specs.Bounds.{span_from}
 use Rattle.game_model.specs.Game.{IsShape}
 use Rattle.game_model.specs.declared.parts.Shape.{Shape}
 use Rattle.std.specs.Prelude.{ℤ, pos, negsuc, unsigned_abs, FitsSigned, ◌-ℤ◌, ◌+ℤ◌, ◌*ℤ◌, ◌≤ℤ◌, ◌<ℤ◌}

@@ -1,14 +1,14 @@
 -- The greatest common divisor of a list of weights.
 use Rattle.std.proofs.Common.{◌≡◌, ℕ, zero, suc, ◌+◌, ◌*◌, ◌^◌, ◌<◌, ◌≤◌, List, [], ◌∷◌, ◌++◌, length, get_or, take, map, refl, ap, arith, sym, subst, ◌∙◌}
-use Rattle.std.specs.Prelude.{ℤ, pos, negsuc, ◌+ℤ◌, ◌*ℤ◌, ◌≤ℤ◌, unsigned_abs, int_div}
+use Rattle.std.specs.Prelude.{ℤ, pos, negsuc, ◌*ℤ◌, ◌≤ℤ◌, unsigned_abs, int_div}
 use Rattle.std.specs.List.{AllByRecursion}
 use Rattle.std.specs.Int.{IsGcd, ◌∣◌}
 use Rattle.std.proofs.lemmas.Int.{ints, unsigned_abs-mul}
 use Rattle.std.proofs.lemmas.Nat.{div-add-mod'}
-use Rattle.std.proofs.lemmas.Nat.Gcd.{dvd_refl, dvd-zero, dvd_trans, le_of_dvd, mod-eq-zero_of_dvd}
+use Rattle.std.proofs.lemmas.Nat.Gcd.{dvd_trans, le_of_dvd, mod-eq-zero_of_dvd}
 use Rattle.std.proofs.Math.Nat.{mul-dvd-mul_left, dvd_of_mul-dvd-mul_left, eq-zero_of_zero-dvd, eq-one_of_dvd-one}
 use Rattle.std.proofs.lemmas.List.{take_more}
-use Rattle.scaled_num.proofs.Sums.{each-append, each-at}
+use Rattle.scaled_num.proofs.Sums.{each-append}
 use Rattle.scaled_num.specs.Sums.{sum_of}
 use Rattle.game_model.specs.Game.{IsWithin, AreCoprime}
 use Rattle.game_model.proofs.Pay.{each-from}
@@ -37,10 +37,10 @@ next-divisor weights i x divisor g l so_far h =
     let more : take (i + 1) weights ≡ front ++ here ∷ [] = take_more weights i x l in
     record {
       divides = subst (λ (xs : List ℤ). AllByRecursion (Divides g) xs) (sym more)
-      (each-append (Divides g) front (here ∷ []) (each-from (Divides divisor) (Divides g) front (λ y d. dvd_trans g h.0 d) so_far.divides) (h.1, tt));
+          (each-append (Divides g) front (here ∷ []) (each-from (Divides divisor) (Divides g) front (λ y d. dvd_trans g h.0 d) so_far.divides) (h.1, tt));
       greatest = λ d all.
-      let parts : AllByRecursion (Divides d) (front ++ here ∷ []) = subst (λ (xs : List ℤ). AllByRecursion (Divides d) xs) more all in
-      h.2 d (so_far.greatest d (each-front (Divides d) front (here ∷ []) parts)) (each-back (Divides d) front (here ∷ []) parts).0;
+          let parts : AllByRecursion (Divides d) (front ++ here ∷ []) = subst (λ (xs : List ℤ). AllByRecursion (Divides d) xs) more all in
+          h.2 d (so_far.greatest d (each-front (Divides d) front (here ∷ []) parts)) (each-back (Divides d) front (here ∷ []) parts).0;
     }
 
 -- an exact quotient

@@ -1,16 +1,16 @@
 -- A running sum over the landings of a row, and its size.
-use Rattle.std.proofs.Common.{◌≡◌, ℕ, ◌+◌, ◌*◌, ◌^◌, ◌<◌, ◌≤◌, List, [], ◌∷◌, length, get_or, take, sum_by, ap, arith, sym, ◌∙◌}
+use Rattle.std.proofs.Common.{◌≡◌, ℕ, ◌+◌, ◌*◌, ◌^◌, ◌<◌, ◌≤◌, List, length, get_or, take, sum_by, ap, arith, sym, ◌∙◌}
 use Rattle.std.specs.Prelude.{ℤ, pos, ◌+ℤ◌, ◌*ℤ◌, unsigned_abs, FitsSigned}
 use Rattle.std.specs.List.{AllByRecursion}
 use Rattle.std.specs.Int.{w128}
 use Rattle.std.proofs.Math.Nat.{mul-le-mul}
-use Rattle.std.proofs.lemmas.Int.{ints, fits_signed_from_abs, unsigned_abs-mul}
+use Rattle.std.proofs.lemmas.Int.{fits_signed_from_abs, unsigned_abs-mul}
 use Rattle.std.proofs.lemmas.List.Sums.{sum_by_more, sum_by_more_le}
 use Rattle.scaled_num.specs.Sums.{total}
 use Rattle.scaled_num.proofs.Sums.{each-at}
 use Rattle.game_model.specs.declared.parts.Landing.{Landing}
 use Rattle.game_model.specs.Build.{landing_of}
-use Rattle.game_model.proofs.Sizes.{total-more}
+use Rattle.game_model.proofs.Sizes.{abs-add, total-more}
 
 abbrev pub term : List ℤ → Landing → ℤ
 term vector l = l.weight *ℤ get_or vector l.to (pos 0)
@@ -20,9 +20,6 @@ size l = unsigned_abs l.weight
 
 abbrev none : Landing
 none = landing_of 0 0 (pos 0)
-
-abs-add : (a b : ℤ) → unsigned_abs (a +ℤ b) ≤ unsigned_abs a + unsigned_abs b
-abs-add a b = omega (arith, ints)
 
 -- the sum over the first landings
 pub record SoFar (row : List Landing) (vector : List ℤ) (i : ℕ) (sum : ℤ) : Type 0 where

@@ -1,14 +1,14 @@
 -- A game in the making: what each call adds to it, and when it is a game.
-use Rattle.std.proofs.Common.{◌≡◌, ℕ, zero, suc, ◌+◌, ◌-◌, ◌*◌, ◌^◌, ◌<◌, ◌≤◌, List, [], ◌∷◌, ◌++◌, length, get_or, set, map, refl, ap, arith, sym, subst, ◌∙◌, inl, inr, ◌⊎◌, length-append}
+use Rattle.std.proofs.Common.{◌≡◌, ℕ, zero, suc, ◌+◌, ◌-◌, ◌^◌, ◌<◌, ◌≤◌, List, [], ◌∷◌, ◌++◌, length, get_or, set, map, refl, ap, arith, sym, subst, ◌∙◌, inl, inr, ◌⊎◌, length-append}
 use Rattle.game_model.proofs.Games.{row-sum-low}
 use Rattle.game_model.proofs.Width.{filled_fits}
 use Rattle.std.specs.Int.{w128}
-use Rattle.std.specs.Prelude.{Result, Ok, Err, OnErr, FitsSigned, ℤ, pos, negsuc, ◌+ℤ◌, ◌*ℤ◌, ◌≤ℤ◌, unsigned_abs}
+use Rattle.std.specs.Prelude.{Result, Ok, Err, OnErr, FitsSigned, ℤ, pos, negsuc, ◌+ℤ◌, ◌*ℤ◌, ◌≤ℤ◌}
 use Rattle.std.specs.List.{AllByRecursion}
 use Rattle.std.proofs.lemmas.Int.{ints}
 use Rattle.std.proofs.lemmas.List.{get_or_append_left, get_or-append-add, get_or-set_same, get_or-set_other, length-set, map-append, map-set, set-get_or}
 use Rattle.std.proofs.Math.Nat.{mul-le-mul_right}
-use Rattle.scaled_num.specs.Sums.{sum_of, total}
+use Rattle.scaled_num.specs.Sums.{sum_of}
 use Rattle.scaled_num.proofs.Sums.{each-append, total-append, total-map, total-scale}
 use Rattle.scaled_num.proofs.Products.{sums}
 use Rattle.game_model.specs.Game.{GameData, IsGame, IsBelief, IsWithin, IsShape, AreCoprime, IsBefore, IsRising, IsLanding, IsRow, IsRowFront, IsRewardInRange, IsNarrow, triples, row_sum}
@@ -43,7 +43,7 @@ kept-belief states k weights kept some e h =
       long = sym (ap length e ∙ length-map (λ x. pos k *ℤ x) kept) ∙ h.long;
       each = parts-within k kept some (subst (λ (xs : List ℤ). AllByRecursion (IsWithin (pos 0) (pos (2 ^ 20))) xs) e h.each);
       sums = sum-within k (sum_of kept) some
-      (subst (λ (x : ℤ). IsWithin (pos 1) (pos (2 ^ 20)) x) (ap sum_of e ∙ total-map (λ x. x) (λ x. pos k *ℤ x) kept ∙ total-scale (pos k) (λ x. x) kept) h.sums);
+          (subst (λ (x : ℤ). IsWithin (pos 1) (pos (2 ^ 20)) x) (ap sum_of e ∙ total-map (λ x. x) (λ x. pos k *ℤ x) kept ∙ total-scale (pos k) (λ x. x) kept) h.sums);
     }
 
 -- what holds at each place holds of each element
@@ -91,8 +91,8 @@ front-step g reward h room range narrow e =
         most = omega (arith, length-append g.rewards (reward ∷ []));
         rewards = each-append (λ r. IsRewardInRange r × IsNarrow g.shape r) g.rewards (reward ∷ []) h.rewards ((range, narrow), tt);
         full = λ i l.
-        let inside : i < length g.rows = omega (arith, length-append g.rows ([] ∷ [])) in
-        subst (λ (row : List Landing). IsRow g.shape row) (sym (get_or_append_left g.rows ([] ∷ []) [] i inside)) (each-full g h e i inside);
+            let inside : i < length g.rows = omega (arith, length-append g.rows ([] ∷ [])) in
+            subst (λ (row : List Landing). IsRow g.shape row) (sym (get_or_append_left g.rows ([] ∷ []) [] i inside)) (each-full g h e i inside);
         last = subst (λ (row : List Landing). IsRowFront g.shape row) (sym last) (record { rising = tt; each = tt; most = omega (arith, ints) });
       };
       sum = ap row_sum (sym last);
@@ -111,6 +111,10 @@ rising-append (k ∷ m ∷ row) l h next = (h.0, rising-append (m ∷ row) l h.1
         let inner : suc n - 1 ≡ n = omega arith in
         ap (λ (i : ℕ). get_or (k ∷ m ∷ row) i (landing_of 0 0 (pos 0))) outer ∙ sym (ap (λ (i : ℕ). get_or (m ∷ row) i (landing_of 0 0 (pos 0))) inner)
 
+-- a row with one more landing
+row-sum-more : (row : List Landing) (l : Landing) → row_sum (row ++ l ∷ []) ≡ row_sum row +ℤ l.weight
+row-sum-more row l = total-append (λ (k : Landing). k.weight) row (l ∷ []) ∙ omega (arith, sums)
+
 pub row-landing : (shape : Shape) (row : List Landing) (l : Landing) → IsRowFront shape row → IsLanding shape l → IsNext row l → (row_sum row +ℤ l.weight) ≤ℤ shape.row_total → IsRowFront shape (row ++ l ∷ [])
 row-landing shape row l h right next left =
     record {
@@ -118,12 +122,6 @@ row-landing shape row l h right next left =
       each = each-append (IsLanding shape) row (l ∷ []) h.each (right, tt);
       most = subst (λ (x : ℤ). x ≤ℤ shape.row_total) (sym (row-sum-more row l)) left;
     }
-  where
-    row-sum-more : (row : List Landing) (l : Landing) → row_sum (row ++ l ∷ []) ≡ row_sum row +ℤ l.weight
-    row-sum-more row l = total-append (λ (k : Landing). k.weight) row (l ∷ []) ∙ omega (arith, sums)
-
-pub row-sum-more : (row : List Landing) (l : Landing) → row_sum (row ++ l ∷ []) ≡ row_sum row +ℤ l.weight
-row-sum-more row l = total-append (λ (k : Landing). k.weight) row (l ∷ []) ∙ omega (arith, sums)
 
 pub front-landing : (g : GameData) (l : Landing) → IsGameFront g → IsBegun g → IsLanding g.shape l → IsNext (last_row g) l → HasWeightLeft g l.weight → IsBuilder (with_landing g l) (row_sum (last_row g) +ℤ l.weight)
 front-landing g l h begun right next left =
@@ -141,8 +139,8 @@ front-landing g l h begun right next left =
         most = h.most;
         rewards = h.rewards;
         full = λ i m.
-        let inside : i + 1 < n = omega arith in
-        subst (λ (r : List Landing). IsRow g.shape r) (sym (get_or-set_other g.rows (n - 1) i row [] (λ e. omega arith))) (h.full i inside);
+            let inside : i + 1 < n = omega arith in
+            subst (λ (r : List Landing). IsRow g.shape r) (sym (get_or-set_other g.rows (n - 1) i row [] (λ e. omega arith))) (h.full i inside);
         last = subst (λ (r : List Landing). IsRowFront g.shape r) (sym last) (row-landing g.shape (last_row g) l h.last right next left);
       };
       sum = sym (ap row_sum last ∙ row-sum-more (last_row g) l);

@@ -1,16 +1,14 @@
 -- What an accepted game keeps at each triple, and what its numbers keep.
-use Rattle.std.proofs.Common.{◌≡◌, ℕ, zero, suc, ◌+◌, ◌-◌, ◌*◌, ◌/◌, ◌%◌, ◌^◌, ◌<◌, ◌≤◌, max, List, [], ◌∷◌, length, get_or, ap, arith, sym, subst, ◌∙◌, refl}
+use Rattle.std.proofs.Common.{◌≡◌, ℕ, zero, suc, ◌+◌, ◌-◌, ◌*◌, ◌/◌, ◌<◌, ◌≤◌, max, List, [], ◌∷◌, length, get_or, ap, arith, sym, subst, ◌∙◌, refl}
 use Rattle.std.specs.Prelude.{ℤ, pos, ◌≤ℤ◌, unsigned_abs, sum_by, fold}
 use Rattle.std.specs.List.{AllByRecursion}
 use Rattle.std.proofs.Math.Nat.{mul-le-mul_right, mul-le-mul_left}
 use Rattle.std.proofs.lemmas.Int.{ints}
 use Rattle.std.proofs.lemmas.Nat.{div-add-mod', mod_below}
-use borrow.Author.Differences.{up}
-use Rattle.scaled_num.specs.Sums.{total}
 use Rattle.scaled_num.proofs.Sums.{total-same, total-pos, each-at}
 use Rattle.game_model.specs.Numbers.{RowsAreFull}
 use Rattle.game_model.specs.Game.{GameData, IsGame, IsLanding, IsRow, IsRewardInRange, IsNarrow, unit, triple, triples, reward_at, row_at, row_sum, numbers, span, greatest_reward}
-use Rattle.game_model.specs.Seeds.{KeepsSpan, IsSpanOf}
+use Rattle.game_model.specs.Seeds.{KeepsSpan}
 use Rattle.game_model.specs.declared.parts.Landing.{Landing}
 use Rattle.game_model.specs.declared.parts.Shape.{Shape}
 use Rattle.game_model.proofs.Pay.{each-from}
@@ -96,10 +94,10 @@ keeps-span g h =
       discount = omega (arith, ints);
       informed = h.shape.informed_actions.0;
       rewards = λ s a c ls la lc.
-      let under = unsigned_abs g.shape.discount.1 in
-      let room = under - unsigned_abs g.shape.discount.0 in
-      let some : 1 ≤ room = omega (arith, ints) in
-      let most : unit * unsigned_abs (reward_at g s a c) * under ≤ unit * greatest_reward g * under =
-      mul-le-mul_right under (mul-le-mul_left unit (reward-bound g h s a c ls la lc)) in
-      omega (arith, ceil-le (unit * greatest_reward g * under) room some);
+          let under = unsigned_abs g.shape.discount.1 in
+          let room = under - unsigned_abs g.shape.discount.0 in
+          let some : 1 ≤ room = omega (arith, ints) in
+          let most : unit * unsigned_abs (reward_at g s a c) * under ≤ unit * greatest_reward g * under =
+          mul-le-mul_right under (mul-le-mul_left unit (reward-bound g h s a c ls la lc)) in
+          omega (arith, ceil-le (unit * greatest_reward g * under) room some);
     }

@@ -1,15 +1,15 @@
 -- The least of several worths, and its quotient rounded down.
-use Rattle.std.proofs.Common.{◌≡◌, ℕ, zero, suc, ◌+◌, ◌*◌, ◌<◌, ◌≤◌, List, length, get_or, set, ap, arith, sym, subst, ◌∙◌, inl, inr, refl, ◌⊎◌}
+use Rattle.std.proofs.Common.{◌≡◌, ℕ, ◌+◌, ◌*◌, ◌<◌, ◌≤◌, List, length, get_or, set, ap, arith, sym, subst, ◌∙◌, inl, inr, ◌⊎◌}
 use Rattle.std.proofs.lemmas.List.{get_or-set_same, get_or-set_other}
 use Rattle.scaled_num.proofs.Products.{add-mulℤ}
 use borrow.Author.Differences.{product_is}
 use Rattle.std.specs.Prelude.{ℤ, pos, negsuc, ◌+ℤ◌, ◌*ℤ◌, ◌≤ℤ◌, ◌<ℤ◌, unsigned_abs}
 use Rattle.std.specs.Int.{int_min}
-use Rattle.std.proofs.Math.Nat.{mul-le-mul_right, lt_of_mul-lt-mul_right}
+use Rattle.std.proofs.Math.Nat.{lt_of_mul-lt-mul_right}
 use Rattle.std.proofs.lemmas.Int.{ints, clamps, by_lt_z}
-use Rattle.game_model.specs.Game.{GameData, IsGame, numbers, span}
+use Rattle.game_model.specs.Game.{GameData, numbers}
 use Rattle.game_model.specs.Seeds.{IsLeastFloor, stage_worth}
-use Rattle.game_model.specs.Build.{IsLeastOf, IsWithinSpan, IsWorthWithin}
+use Rattle.game_model.specs.Bounds.{IsLeastOf}
 
 pub least-one : (f : ℕ → ℤ) (x : ℤ) → x ≡ f 0 → IsLeastOf f 1 x
 least-one f x e = record {

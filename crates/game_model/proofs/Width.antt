@@ -1,12 +1,12 @@
 -- The width rule, and how large products under it are.
-use Rattle.std.proofs.Common.{rules, ◌≡◌, ℕ, ◌+◌, ◌*◌, ◌^◌, ◌<◌, ◌≤◌, max, ap, arith, sym, ◌∙◌, mul-le-mul}
-use Rattle.std.specs.Prelude.{ℤ, pos, ◌+ℤ◌, ◌*ℤ◌, ◌≤ℤ◌, ◌<ℤ◌, neg_ℤ, FitsSigned, unsigned_abs}
+use Rattle.std.proofs.Common.{rules, ◌≡◌, ℕ, ◌^◌, ◌≤◌, max, arith}
+use Rattle.std.specs.Prelude.{ℤ, pos, ◌+ℤ◌, ◌*ℤ◌, ◌≤ℤ◌, FitsSigned, unsigned_abs}
 use Rattle.std.specs.Int.{w128, int_max}
 use Rattle.std.specs.Int.Signed.{le_z}
 use Rattle.std.specs.Bool.{IsTrue}
 use Rattle.std.proofs.lemmas.Int.{ints, clamps, fits_signed_from_abs, unsigned_abs-mul}
 use Rattle.std.proofs.lemmas.Nat.{mul-le}
-use Rattle.game_model.specs.Game.{IsWithin, IsRewardInRange}
+use Rattle.game_model.specs.Game.{IsRewardInRange}
 
 -- the products of the width rule fit
 pub record WidthFits (d q m : ℤ) : Type 0 where

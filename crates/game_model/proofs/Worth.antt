@@ -1,29 +1,25 @@
 -- What one stage and the old entries are worth, and how large it is.
-use Rattle.std.proofs.Common.{◌≡◌, ℕ, zero, suc, ◌+◌, ◌-◌, ◌*◌, ◌/◌, ◌^◌, ◌<◌, ◌≤◌, max, List, [], ◌∷◌, length, get_or, take, refl, ap, arith, sym, subst, ◌∙◌}
+use Rattle.std.proofs.Common.{◌≡◌, ℕ, zero, suc, ◌+◌, ◌-◌, ◌*◌, ◌/◌, ◌^◌, ◌<◌, ◌≤◌, max, List, [], ◌∷◌, get_or, refl, ap, arith, sym, subst, ◌∙◌}
 use Rattle.std.specs.Prelude.{ℤ, pos, ◌+ℤ◌, ◌*ℤ◌, ◌≤ℤ◌, ◌<ℤ◌, unsigned_abs, FitsSigned, sum_by, fold}
 use Rattle.std.specs.List.{AllByRecursion}
 use Rattle.std.specs.Int.{w128}
 use Rattle.std.proofs.Math.Nat.{mul-le-mul_left, mul-le-mul_right}
 use Rattle.std.proofs.lemmas.Int.{ints, fits_signed_from_abs, unsigned_abs-mul}
 use Rattle.std.proofs.lemmas.Nat.{div_below, mul-le}
-use Rattle.std.proofs.lemmas.List.{take_more}
-use Rattle.std.proofs.lemmas.List.Sums.{sum_by-cons, sum_by_more, sum_by_more_le}
+use Rattle.std.proofs.lemmas.List.Sums.{sum_by-cons}
 use Rattle.scaled_num.specs.Sums.{total}
 use Rattle.scaled_num.proofs.Sums.{total-same, each-at}
 use Rattle.game_model.specs.Numbers.{over_row}
-use Rattle.game_model.specs.Game.{GameData, IsGame, IsLanding, IsRow, IsRewardInRange, reward_at, row_at, numbers, span, unit, greatest_reward}
+use Rattle.game_model.specs.Game.{GameData, IsGame, IsLanding, IsRewardInRange, reward_at, row_at, numbers, span, unit, greatest_reward}
 use Rattle.game_model.specs.Seeds.{stage_worth}
-use Rattle.game_model.specs.Build.{IsBounded, IsWithinSpan, IsWorthWithin}
+use Rattle.game_model.specs.Bounds.{IsBounded, IsWithinSpan, IsWorthWithin}
 use Rattle.game_model.specs.declared.parts.Landing.{Landing}
 use Rattle.game_model.proofs.Pay.{each-from}
 use Rattle.game_model.proofs.Rows.{row-landings}
-use Rattle.game_model.proofs.Sizes.{total-more}
+use Rattle.game_model.proofs.Sizes.{abs-add}
 use Rattle.game_model.proofs.Ceil.{magnitude-is}
 use Rattle.game_model.proofs.Width.{reward_small}
 use Rattle.game_model.proofs.Games.{row-in, reward-in, row-weights, weight-abs, keeps-span}
-
-abs-add : (a b : ℤ) → unsigned_abs (a +ℤ b) ≤ unsigned_abs a + unsigned_abs b
-abs-add a b = omega (arith, ints)
 
 -- a sum is no larger than the sum of bounds
 pub total-bound : {X : Type 0} (f : X → ℤ) (w : X → ℕ) (most : ℕ) (xs : List X) → AllByRecursion (λ x. unsigned_abs (f x) ≤ w x * most) xs → unsigned_abs (total f xs) ≤ sum_by w xs * most

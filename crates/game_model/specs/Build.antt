@@ -1,7 +1,7 @@
 -- A game in the making: its rows up to the last one, which may be unfinished.
-use Rattle.std.specs.Prelude.{pos, map, ◌^◌, unsigned_abs, ◌*◌, ◌/◌, neg_ℤ, List, [], ◌∷◌, ◌++◌, length, ◌⊎◌, ◌+◌, ◌-◌, ◌<◌, ◌≤◌, ◌≡◌, ◌*ℤ◌, ◌+ℤ◌, ◌≤ℤ◌, ◌<ℤ◌, ℕ, ℤ, slice_index_or, slice_set}
+use Rattle.std.specs.Prelude.{pos, map, List, [], ◌∷◌, ◌++◌, length, ◌+◌, ◌-◌, ◌<◌, ◌≤◌, ◌≡◌, ◌*ℤ◌, ◌+ℤ◌, ◌≤ℤ◌, ℕ, ℤ, slice_index_or, slice_set}
 use Rattle.std.specs.List.{AllByRecursion}
-use Rattle.game_model.specs.Game.{GameData, IsGame, IsWithin, unit, span, IsShape, IsBelief, AreCoprime, IsBefore, IsLanding, IsRow, IsRowFront, IsRewardInRange, IsNarrow, triples, row_sum}
+use Rattle.game_model.specs.Game.{GameData, IsGame, span, IsShape, IsBelief, AreCoprime, IsBefore, IsRow, IsRowFront, IsRewardInRange, IsNarrow, triples, row_sum}
 use Rattle.game_model.specs.declared.parts.Shape.{Shape}
 use Rattle.game_model.specs.declared.parts.Landing.{Landing}
 use Rattle.game_model.specs.declared.parts.Entry.{Entry}
@@ -19,6 +19,7 @@ data_of shape first entries = record {
 abbrev pub last_row : GameData → List Landing
 last_row g = slice_index_or g.rows (length g.rows - 1) []
 
+-- a landing of its numbers
 abbrev pub landing_of : ℕ → ℕ → ℤ → Landing
 landing_of seen to weight = record { seen = seen; to = to; weight = weight }
 
@@ -77,43 +78,7 @@ pub record IsBuilder (g : GameData) (filled : ℤ) : Type 0 where
   pub front : IsGameFront g
   pub sum : filled ≡ row_sum (last_row g)
 
--- the span of games of this shape whose rewards have this greatest magnitude
-abbrev pub span_from : Shape → ℕ → ℕ
-span_from shape most =
-    let under = unsigned_abs shape.discount.1 in
-    let room = under - unsigned_abs shape.discount.0 in
-    (unit * most * under + room - 1) / room
-
 -- what the fields of a game keep: the last one is its span
 pub record IsHeld (g : GameData) (width : ℤ) : Type 0 where
   pub game : IsGame g
   pub spans : width ≡ pos (span g)
-
--- an entry of a vector is within the span
-abbrev pub IsWithinSpan : GameData → ℤ → Type 0
-IsWithinSpan g x = unsigned_abs x ≤ span g
-
--- a vector has an entry for each state, within the span
-pub record IsBounded (g : GameData) (vector : List ℤ) : Type 0 where
-  pub long : length vector ≡ g.shape.states
-  pub each : AllByRecursion (IsWithinSpan g) vector
-
--- what entries within the span are worth before the division by D * Q
-abbrev pub IsWorthWithin : GameData → ℤ → Type 0
-IsWorthWithin g x = unsigned_abs x ≤ span g * unsigned_abs g.shape.row_total * unsigned_abs g.shape.discount.1
-
--- the limits of a shape, in two parts
-abbrev pub HasCounts : Shape → Type 0
-HasCounts shape =
-    ((1 ≤ shape.states) × (shape.states ≤ 16)) × ((1 ≤ shape.own_actions) × (shape.own_actions ≤ 6))
-    × ((1 ≤ shape.informed_actions) × (shape.informed_actions ≤ 6)) × ((1 ≤ shape.observations) × (shape.observations ≤ 8))
-
-abbrev pub HasFractions : Shape → Type 0
-HasFractions shape =
-    IsWithin (pos 1) (pos (2 ^ 30)) shape.row_total
-    × ((pos 0 ≤ℤ shape.discount.0) × (shape.discount.0 <ℤ shape.discount.1) × (shape.discount.1 ≤ℤ pos (2 ^ 20)))
-
--- the least of the first n values of f
-pub record IsLeastOf (f : ℕ → ℤ) (n : ℕ) (x : ℤ) : Type 0 where
-  pub each : (k : ℕ) → k < n → x ≤ℤ f k
-  pub some : (k : ℕ) × (k < n) × (x ≡ f k)

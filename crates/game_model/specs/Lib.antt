@@ -6,3 +6,4 @@ pub mod Game
 pub mod Seeds
 pub mod Branches
 pub mod Build
+pub mod Bounds

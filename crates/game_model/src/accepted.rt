@@ -1,4 +1,5 @@
-ghost use Rattle.game_model.specs.Build.{data_of, span_from};
+ghost use Rattle.game_model.specs.Build.{data_of};
+ghost use Rattle.game_model.specs.Bounds.{span_from};
 ghost use Rattle.game_model.specs.Game.{IsGame, IsRewardInRange, IsShape, numbers, reward_at, row_at, span, triple};
 ghost use Rattle.game_model.specs.Seeds.{KeepsSpan};
 ghost use Rattle.scaled_num.specs.Sums.{sum_of};
@@ -12,7 +13,7 @@ use std::marker::Model;
 
 /// A game that keeps every limit: its shape, its first belief, and for each state, own action and informed action
 /// a reward and a full row of landings.
-#[derive(Drop)]
+#[derive(Debug, Drop)]
 pub struct Game {
     shape: Shape,
     first: Vec<i128>,
@@ -138,7 +139,8 @@ impl Game {
         ensures place { result ≡ triple self.now.shape s a c }
         ensures within { result < length self.now.rows }
     {
-        (s as usize * self.shape.own_actions as usize + a as usize) * self.shape.informed_actions as usize + c as usize
+        let pair = s as usize * self.shape.own_actions as usize + a as usize;
+        pair * self.shape.informed_actions as usize + c as usize
     }
 }
 

@@ -4,14 +4,16 @@ ghost use Rattle.std.specs.Bool.{IsTrue};
 ghost use Rattle.std.specs.Prelude.{IfOk, IsErrOf, OnErr, OnOk, [], pos, ◌↔◌, ◌⊎◌, ◌≡◌, ◌≤ℤ◌};
 
 use crate::accepted::Game;
-use crate::limits::{coprime, count_triples, is_belief, is_landing, is_narrow, is_next, is_reward, is_shape};
+use crate::limits::{
+    coprime, count_triples, is_belief, is_landing, is_narrow, is_next, is_reward, is_shape,
+};
 use crate::parts::{Entry, Landing, Shape};
 use std::alloc::{AllocError, Global};
 use std::marker::Model;
 use thiserror::Error;
 
 /// Why a builder refuses.
-#[derive(Debug, Drop, Error)]
+#[derive(Debug, Drop, PartialEq, Eq, Error)]
 pub enum GameFault {
     /// A number is outside its limit.
     #[error("a number is outside its limit")]
@@ -40,7 +42,7 @@ pub enum GameFault {
 }
 
 /// A game in the making. It takes the triples of state, own action and informed action in rising order.
-#[derive(Drop)]
+#[derive(Debug, Drop)]
 pub struct GameBuilder {
     shape: Shape,
     first: Vec<i128>,
@@ -165,7 +167,12 @@ impl GameBuilder {
         if !self.is_last_full() {
             return Err(GameFault::Total);
         }
-        let GameBuilder { shape, first, entries, .. } = self;
+        let GameBuilder {
+            shape,
+            first,
+            entries,
+            ..
+        } = self;
         Ok(Game::of_parts(shape, first, entries))
     }
 

@@ -1,4 +1,5 @@
-ghost use Rattle.game_model.specs.Build.{HasCounts, HasFractions, IsMultiple, IsNext};
+ghost use Rattle.game_model.specs.Build.{IsMultiple, IsNext};
+ghost use Rattle.game_model.specs.Bounds.{HasCounts, HasFractions};
 ghost use Rattle.game_model.specs.Game.{AreCoprime, IsBelief, IsLanding, IsNarrow, IsRewardInRange, IsShape, IsWithin, triples};
 ghost use Rattle.scaled_num.specs.Sums.{sum_of};
 ghost use Rattle.std.specs.Bool.{IsTrue};
@@ -6,7 +7,10 @@ ghost use Rattle.std.specs.Int.{◌∣◌};
 ghost use Rattle.std.specs.List.{AllByRecursion};
 ghost use Rattle.std.specs.Prelude.{IfOk, int_div, length, map, max, pos, unsigned_abs, ℕ, ◌<ℤ◌, ◌^◌, ◌↔◌, ◌≡◌, ◌≤◌};
 
-use crate::parts::{Landing, MOST_ACTIONS, MOST_BELIEF, MOST_DISCOUNT, MOST_OBSERVATIONS, MOST_REWARD, MOST_ROW_TOTAL, MOST_STATES, MOST_WIDTH, Shape};
+use crate::parts::{
+    Landing, MOST_ACTIONS, MOST_BELIEF, MOST_DISCOUNT, MOST_OBSERVATIONS, MOST_REWARD,
+    MOST_ROW_TOTAL, MOST_STATES, MOST_WIDTH, Shape,
+};
 use scaled_num::gcd;
 use std::alloc::{AllocError, Global};
 
@@ -32,7 +36,11 @@ fn has_fractions(shape: &Shape) -> bool
     ensures { IsTrue result ↔ HasFractions shape.now }
 {
     let (over, under) = shape.discount;
-    1 <= shape.row_total && shape.row_total <= MOST_ROW_TOTAL && 0 <= over && over < under && under <= MOST_DISCOUNT
+    1 <= shape.row_total
+        && shape.row_total <= MOST_ROW_TOTAL
+        && 0 <= over
+        && over < under
+        && under <= MOST_DISCOUNT
 }
 
 /// Whether a number is at least 1 and at most `most`.
@@ -59,7 +67,9 @@ pub fn sum(weights: &[i128]) -> i128
 fn are_weights(weights: &[i128]) -> bool
     ensures { IsTrue result ↔ AllByRecursion (IsWithin (pos 0) (pos (2 ^ 20))) weights.now }
 {
-    weights.iter().all(|weight| 0 <= *weight && *weight <= MOST_BELIEF)
+    weights
+        .iter()
+        .all(|weight| 0 <= *weight && *weight <= MOST_BELIEF)
 }
 
 /// Whether these are weights of a belief over so many states: each at most 2^20, and so is their total, which is

@@ -1,4 +1,4 @@
-ghost use Rattle.game_model.specs.Build.{IsBounded, IsLeastOf, IsWithinSpan, IsWorthWithin};
+ghost use Rattle.game_model.specs.Bounds.{IsBounded, IsLeastOf, IsWithinSpan, IsWorthWithin};
 ghost use Rattle.game_model.specs.Game.{numbers, row_at, span};
 ghost use Rattle.scaled_num.specs.Sums.{total};
 ghost use Rattle.game_model.specs.Seeds.{IsLeastFloor, IsSeed, IsSeedAfter, stage_worth};

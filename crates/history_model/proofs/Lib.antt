@@ -2,3 +2,4 @@ pub mod Parts
 pub mod Controller
 pub mod Splitting
 pub mod Standing
+pub mod Example

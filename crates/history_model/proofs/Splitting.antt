@@ -27,8 +27,8 @@ sum_by-same : {X : Type 0} (f g : X → ℕ) (xs : List X) → ((x : X) → f x 
 sum_by-same f g xs h = ap up (sym (total-pos f xs) ∙ total-same (λ x. pos (f x)) (λ x. pos (g x)) xs (each (λ x. ap pos (h x)) xs) ∙ total-pos g xs)
 
 -- each positive mass of a point divides z
-abbrev MassesDivide : Numbers → (ℕ → Point) → ℕ → ℕ → Type 0
-MassesDivide g points count z =
+abbrev DividesAll : Numbers → (ℕ → Point) → ℕ → ℕ → Type 0
+DividesAll g points count z =
     (j a o t : ℕ) → j < count → a < g.own_actions → o < g.observations → t < g.states →
     mass g (points j) a o t ≢ 0 → mass g (points j) a o t * (z / mass g (points j) a o t) ≡ z
 
@@ -58,7 +58,7 @@ each-cond : {X : Type 0} (P : X → Type 0) (t : Bool) (xs ys : List X) → AllB
 each-cond P true xs ys h k = h
 each-cond P false xs ys h k = k
 
-informed_plan-is_plan : (g : Numbers) (m v count z : ℕ) (e : ℕ) (points : ℕ → Point) → 1 ≤ m → 1 ≤ z → g.states ≤ count → MassesDivide g points count z →
+informed_plan-is_plan : (g : Numbers) (m v count z : ℕ) (e : ℕ) (points : ℕ → Point) → 1 ≤ m → 1 ≤ z → g.states ≤ count → DividesAll g points count z →
     ((j : ℕ) → j < count → PointKeeps g m v count (points j)) → ((j : ℕ) → j < count → PointLoses g e m points j) →
     (n j s : ℕ) → j < count → s < g.states → IsInformedPlan g (m * z) n (informed_plan g points z j s n)
 informed_plan-is_plan g m v count z e points lm lz enough divide fits stand zero j s lj ls = tt
@@ -421,7 +421,7 @@ total-at_once g points z j n m e k₁ q k sigma p full hp hq once =
     turn e b m z d r q k = simp products (omega (arith, sums))
 
 -- pay, summed over the states by the belief: what the first steps give at once, and what is left
-belief_pay-first_steps : (g : Numbers) (m v count z e n₁ : ℕ) (points : ℕ → Point) → RowsAreFull g → 1 ≤ m → 1 ≤ z → g.states ≤ count → MassesDivide g points count z →
+belief_pay-first_steps : (g : Numbers) (m v count z e n₁ : ℕ) (points : ℕ → Point) → RowsAreFull g → 1 ≤ m → 1 ≤ z → g.states ≤ count → DividesAll g points count z →
     ((j : ℕ) → j < count → PointKeeps g m v count (points j)) → ((j : ℕ) → j < count → PointLoses g e m points j) →
     (n j : ℕ) (sigma : OwnPlan (suc n)) → j < count → IsOwnPlan g n₁ (suc n) sigma →
     belief_pay g points z (suc n) j sigma
@@ -456,7 +456,7 @@ belief_pay-first_steps g m v count z e n₁ points full lm lz enough divide fits
     spread : (w r p y : ℤ) → w *ℤ (r +ℤ p *ℤ y) ≡ w *ℤ r +ℤ p *ℤ (w *ℤ y)
     spread w r p y = simp products (omega (arith, sums))
 
-splitting-upper : (g : Numbers) (e m v count z : ℕ) (points : ℕ → Point) → RowsAreFull g → 1 ≤ m → 1 ≤ z → g.states ≤ count → MassesDivide g points count z →
+splitting-upper : (g : Numbers) (e m v count z : ℕ) (points : ℕ → Point) → RowsAreFull g → 1 ≤ m → 1 ≤ z → g.states ≤ count → DividesAll g points count z →
     ((j : ℕ) → j < count → PointKeeps g m v count (points j)) → ((j : ℕ) → j < count → PointLoses g e m points j) →
     (n₁ n j : ℕ) (sigma : OwnPlan n) → j < count → IsOwnPlan g n₁ n sigma →
     (pos e *ℤ belief_pay g points z n j sigma)
@@ -600,7 +600,7 @@ from-below P b (suc n) h i l m =
 at-below : (P : ℕ → Type 0) (n i : ℕ) → AllByRecursion P (below n) → i < n → P i
 at-below P n i h l = from-below P 0 n h i (omega arith) (omega arith)
 
-masses-divide : (g : Numbers) (points : ℕ → Point) (count : ℕ) → MassesDivide g points count (mass_product g points count)
+pub masses-divide : (g : Numbers) (points : ℕ → Point) (count : ℕ) → DividesAll g points count (mass_product g points count)
 masses-divide g points count j a o t lj la lo lt ne =
     let z = mass_product g points count in
     let P = Divides z in

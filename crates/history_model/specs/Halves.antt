@@ -1,5 +1,5 @@
 -- What a certificate promises of its controller and of its splitting strategy, against every plan of the other player.
-use Rattle.std.specs.Prelude.{ℕ, ◌*◌, ◌^◌, ◌<◌, pos, ◌+ℤ◌, ◌-ℤ◌, ◌*ℤ◌, ◌≤ℤ◌, length}
+use Rattle.std.specs.Prelude.{ℕ, ◌≡◌, ◌≢◌, ◌/◌, ◌*◌, ◌^◌, ◌<◌, pos, ◌+ℤ◌, ◌-ℤ◌, ◌*ℤ◌, ◌≤ℤ◌, length}
 use Rattle.scaled_num.specs.Sums.{below, total}
 use Rattle.alpha_set.specs.Nodes.{nodes_of}
 use Rattle.controller.specs.Certificates.{CertificateData, first_total}
@@ -8,7 +8,7 @@ use Rattle.game_model.specs.Game.{GameData, first_at, numbers, span, unit}
 use Rattle.game_model.specs.Plan.{InformedPlan, IsInformedPlan, IsOwnPlan, OwnPlan}
 use Rattle.game_model.specs.Play.{pay}
 use Rattle.history_model.specs.Plans.{informed_plan, mass_product, own_plan}
-use Rattle.point_set.specs.Points.{points_of}
+use Rattle.point_set.specs.Points.{mass, points_of}
 
 -- the controller of a certificate: the plan of its start node
 abbrev pub own : CertificateData → (n : ℕ) → OwnPlan n
@@ -51,3 +51,10 @@ OwnIsPlan g k = (n : ℕ) → IsOwnPlan (numbers g) mix_total n (own k n)
 -- the splitting strategy is a right plan of the informed player in each first state
 abbrev pub HoldIsPlan : GameData → CertificateData → Type 0
 HoldIsPlan g k = (n s : ℕ) → s < g.shape.states → IsInformedPlan (numbers g) (mix_total * common g k) n (hold g k s n)
+
+-- the common multiple is one: each positive mass divides it
+abbrev pub MassesDivide : GameData → CertificateData → Type 0
+MassesDivide g k =
+    (j a o t : ℕ) → j < length k.points → a < g.shape.own_actions → o < g.shape.observations → t < g.shape.states →
+    mass (numbers g) (points_of k.points j) a o t ≢ 0 →
+    mass (numbers g) (points_of k.points j) a o t * (common g k / mass (numbers g) (points_of k.points j) a o t) ≡ common g k

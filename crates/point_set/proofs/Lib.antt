@@ -3,3 +3,4 @@ pub mod Running
 pub mod Named
 pub mod Masses
 pub mod Worth
+pub mod Fitting

@@ -1,0 +1,128 @@
+ghost use Rattle.game_model.specs.Game.{IsWithin, span};
+ghost use Rattle.point_set.specs.Members.{most_points, point_data};
+ghost use Rattle.point_set.specs.Points.{PointFits, most_share};
+ghost use Rattle.std.specs.List.{AllByRecursion};
+ghost use Rattle.std.specs.Prelude.{IfOk, neg_ℤ, pos, ◌<◌, ◌≡◌};
+
+use crate::{Point, PointFault, PointSet, PushFault, Share};
+use belief::{Belief, Mixes};
+use game_model::{Game, GameBuilder, GameFault, Shape};
+use std::alloc::{AllocError, Global};
+
+/// Matching pennies in one state, without a future.
+fn pennies(alloc: Global) -> Result<Game, GameFault> {
+    let shape = Shape {
+        states: 1,
+        own_actions: 2,
+        informed_actions: 2,
+        observations: 1,
+        row_total: 1,
+        discount: (0, 1),
+    };
+    let mut builder = GameBuilder::new(alloc, shape, &[3])?;
+    for reward in [1, -1, -1, 1] {
+        builder.step(reward)?;
+        builder.landing(0, 0, 1)?;
+    }
+    builder.finish()
+}
+
+/// The point of matching pennies that mixes evenly and goes on with point 0, so many times after each action.
+fn even_point(alloc: Global, game: &Game, value: i128, weight: i128) -> Result<Point, AllocError>
+    requires states { game.now.shape.states ≡ 1 }
+    requires own { game.now.shape.own_actions ≡ 2 }
+    requires informed { game.now.shape.informed_actions ≡ 2 }
+    requires seen { game.now.shape.observations ≡ 1 }
+    requires span { span game.now ≡ 65536 }
+    requires value { IsWithin (neg_ℤ (pos 65536)) (pos 65536) value }
+    requires weight { IsWithin (pos 1) most_share weight }
+    ensures fits { IfOk result (λ p. PointFits game.now most_points (point_data p)) }
+    ensures named { IfOk result (λ p. AllByRecursion (λ share. share.member < 1) (point_data p).splits) }
+{
+    let mixes = Mixes::of(alloc, game, &[32_768, 32_768])?;
+    let mut splits = Vec::new(alloc);
+    splits.push(Share {
+        a: 0,
+        o: 0,
+        k: 0,
+        weight,
+    })?;
+    splits.push(Share {
+        a: 1,
+        o: 0,
+        k: 0,
+        weight,
+    })?;
+    Ok(Point {
+        belief: Belief::corner(1, 0),
+        value,
+        mixes,
+        splits,
+    })
+}
+
+/// The fault of a set of that point alone.
+fn fault_of(
+    alloc: Global,
+    game: &Game,
+    value: i128,
+    weight: i128,
+) -> Result<Option<PointFault>, AllocError>
+    requires states { game.now.shape.states ≡ 1 }
+    requires own { game.now.shape.own_actions ≡ 2 }
+    requires informed { game.now.shape.informed_actions ≡ 2 }
+    requires seen { game.now.shape.observations ≡ 1 }
+    requires span { span game.now ≡ 65536 }
+    requires value { IsWithin (neg_ℤ (pos 65536)) (pos 65536) value }
+    requires weight { IsWithin (pos 1) most_share weight }
+{
+    let point = even_point(alloc, game, value, weight)?;
+    let mut set = PointSet::new(alloc, game);
+    let Ok(_) = set.push(point) else {
+        return Err(AllocError);
+    };
+    Ok(set.stands(game, 0))
+}
+
+#[test]
+fn the_even_point_stands_and_others_fail_first_at_action_0(rt: HostRuntime) {
+    let Ok(game) = pennies(rt.alloc()) else {
+        panic!(rt; "the game is refused");
+    };
+    assert_eq!(rt; game.states(), 1);
+    assert_eq!(rt; game.own_actions(), 2);
+    assert_eq!(rt; game.informed_actions(), 2);
+    assert_eq!(rt; game.observations(), 1);
+    assert_eq!(rt; game.span(), 65_536);
+    let stands = fault_of(rt.alloc(), &game, 0, 65_536);
+    assert!(rt; matches!(stands, Ok(None)));
+    let value = fault_of(rt.alloc(), &game, -1, 65_536);
+    assert!(rt; matches!(value, Ok(Some(PointFault::Value { a: 0 }))));
+    let split = fault_of(rt.alloc(), &game, -1, 65_535);
+    assert!(rt; matches!(split, Ok(Some(PointFault::Split { a: 0, o: 0, s: 0 }))));
+}
+
+#[test]
+fn a_push_answers_numbers_up_to_1023_and_then_full(rt: HostRuntime) {
+    let Ok(game) = pennies(rt.alloc()) else {
+        panic!(rt; "the game is refused");
+    };
+    assert_eq!(rt; game.states(), 1);
+    assert_eq!(rt; game.own_actions(), 2);
+    assert_eq!(rt; game.informed_actions(), 2);
+    assert_eq!(rt; game.observations(), 1);
+    assert_eq!(rt; game.span(), 65_536);
+    let mut set = PointSet::new(rt.alloc(), &game);
+    for number in 0..1024 {
+        let Ok(point) = even_point(rt.alloc(), &game, i128::from(number), 65_536) else {
+            panic!(rt; "out of memory");
+        };
+        assert!(rt; matches!(set.push(point), Ok(k) if k == number));
+    }
+    let Ok(point) = even_point(rt.alloc(), &game, 0, 65_536) else {
+        panic!(rt; "out of memory");
+    };
+    assert!(rt; matches!(set.push(point), Err(PushFault::Full)));
+    assert_eq!(rt; set.len(), 1024);
+    assert_eq!(rt; set.point(2).value, 2);
+}

@@ -1,5 +1,14 @@
+use Rattle.controller.specs.Certificates.{CertificateData}
+use Rattle.game_model.specs.Game.{GameData, numbers}
+use Rattle.history_model.specs.Halves.{MassesDivide}
+use Rattle.history_model.proofs.Splitting.{masses-divide}
 use Rattle.history_model.proofs.Standing.{hold-is_plan, upper-half}
 use Rattle.history_model.proofs.law_upper_numbers.Goals as goal
+use Rattle.point_set.specs.Points.{points_of}
+use Rattle.std.proofs.Common.{length}
+
+divide : (g : GameData) (k : CertificateData) → MassesDivide g k
+divide g k = masses-divide (numbers g) (points_of k.points) (length k.points)
 
 pub returns : goal.returns
-returns c = record { plan = hold-is_plan; half = λ g k keeps. upper-half g k keeps.full }
+returns c = record { divide = divide; plan = hold-is_plan; half = λ g k keeps. upper-half g k keeps.full }

@@ -1,8 +1,7 @@
-use Rattle.std.proofs.Common.{rules, ◌≡◌, unsigned_abs}
-use Rattle.std.specs.Prelude.{pos, FitsSigned}
+use Rattle.std.proofs.Common.{rules}
+use Rattle.std.specs.Prelude.{FitsSigned}
 use Rattle.std.specs.Int.{w128}
 use Rattle.std.proofs.lemmas.Int.{to_z-of_z}
-use Rattle.game_model.specs.Build.{span_from}
 use Rattle.game_model.proofs.Ceil.{span-is, span-fits}
 use Rattle.game_model.proofs.accepted.span_of.Goals as goal
 

@@ -1,9 +1,8 @@
-use Rattle.std.specs.Prelude.{ℤ, ◌*ℤ◌, FitsSigned, pos, int_div, ◌<◌, ◌≤◌, ◌^◌, ◌≡◌, List, map, IfOk}
+use Rattle.std.specs.Prelude.{ℤ, ◌*ℤ◌, pos, ◌≡◌, List, map}
 use Rattle.std.specs.Int.{w128, cast_signed}
 use Rattle.std.proofs.Common.{arith, sym, subst, Vec, Global}
 use Rattle.std.proofs.lemmas.Int.{ints, to_z_pos, fits_signed_from_abs}
-use Rattle.game_model.specs.Build.{IsMultiple}
-use Rattle.game_model.specs.Game.{AreCoprime, IsBelief}
+use Rattle.game_model.specs.Game.{AreCoprime}
 use Rattle.game_model.proofs.Divisor.{divisor-small, multiple, quotients-coprime, quotients}
 use Rattle.std.proofs.lemmas.Result.{IfOk-weaker}
 use Rattle.game_model.proofs.limits.coprime.Goals as goal

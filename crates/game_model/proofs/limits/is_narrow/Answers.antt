@@ -1,8 +1,6 @@
-use Rattle.std.proofs.Common.{max, arith, ◌≡◌, rules}
-use Rattle.std.specs.Prelude.{pos, unsigned_abs, ℤ, ◌≤ℤ◌, FitsSigned}
-use Rattle.std.specs.Bool.{IsTrue}
+use Rattle.std.proofs.Common.{max, arith, ◌≡◌}
+use Rattle.std.specs.Prelude.{pos, unsigned_abs, ℤ, FitsSigned}
 use Rattle.std.specs.Int.{w128}
-use Rattle.std.specs.Int.Signed.{le_z}
 use Rattle.std.proofs.lemmas.Int.{ints, to_z-of_z}
 use Rattle.game_model.proofs.Width.{width-fits, greater_small, at_most}
 use Rattle.game_model.proofs.limits.is_narrow.Goals as goal

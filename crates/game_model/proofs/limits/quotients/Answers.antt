@@ -1,4 +1,4 @@
-use Rattle.std.proofs.Common.{arith, get_or, ◌^◌, ◌≡◌, ap, sym, ◌∙◌, map, take, [], ◌∷◌, ◌++◌, ◌+◌}
+use Rattle.std.proofs.Common.{arith, get_or, ◌≡◌, ap, sym, ◌∙◌, map, take, [], ◌∷◌, ◌++◌}
 use Rattle.std.specs.Prelude.{ℤ, pos, FitsSigned, int_div}
 use Rattle.std.specs.Int.{w128}
 use Rattle.std.proofs.lemmas.Int.{ints, to_z-of_z, quot_fits}

@@ -2,7 +2,7 @@ use Rattle.std.proofs.Common.{rules, arith, ◌≡◌, ◌*◌, ◌+◌, ℕ, su
 use Rattle.std.specs.Prelude.{ℤ, pos, unsigned_abs, FitsSigned, slice_index_or}
 use Rattle.std.specs.Int.{w128, int_min, cast_signed}
 use Rattle.std.proofs.lemmas.Int.{to_z-of_z}
-use Rattle.game_model.specs.Build.{IsLeastOf, IsWorthWithin}
+use Rattle.game_model.specs.Bounds.{IsLeastOf, IsWorthWithin}
 use Rattle.game_model.specs.Game.{GameData, numbers, span}
 use Rattle.game_model.specs.Seeds.{stage_worth}
 use Rattle.game_model.proofs.Least.{least-one, least-more, min-within}
@@ -27,7 +27,7 @@ loop-c-preserved c =
     simp to_z-of_z (record {
       least = subst (IsLeastOf f (c.loop-c.c + 1)) (sym is) (least-more f c.loop-c.c x y (subst (IsLeastOf f c.loop-c.c) c.loop-c.least-is c.loop-c.invariant.least) c.worth.ensures.exact);
       bounded = subst (IsWorthWithin g) (sym is)
-      (min-within x y (span g * unsigned_abs g.shape.row_total * unsigned_abs g.shape.discount.1) (subst (IsWorthWithin g) c.loop-c.least-is c.loop-c.invariant.bounded) c.worth.ensures.bounded);
+          (min-within x y (span g * unsigned_abs g.shape.row_total * unsigned_abs g.shape.discount.1) (subst (IsWorthWithin g) c.loop-c.least-is c.loop-c.invariant.bounded) c.worth.ensures.bounded);
     })
 
 pub returns-clause-least : goal.returns-clause-least

@@ -1,5 +1,5 @@
 use Rattle.std.specs.Prelude.{pos, slice_index_or}
-use Rattle.game_model.specs.Build.{IsLeastOf, IsWorthWithin}
+use Rattle.game_model.specs.Bounds.{IsLeastOf, IsWorthWithin}
 use Rattle.game_model.specs.Game.{numbers}
 use Rattle.game_model.specs.Seeds.{stage_worth}
 use Rattle.game_model.proofs.seeds.least_worth.Given as goal

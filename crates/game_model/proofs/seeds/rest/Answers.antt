@@ -5,7 +5,7 @@ use Rattle.std.specs.Int.{w128}
 use Rattle.std.proofs.lemmas.Int.{ints, to_z-of_z}
 use Rattle.scaled_num.specs.Sums.{total}
 use Rattle.game_model.specs.Game.{GameData, IsLanding, row_at, span}
-use Rattle.game_model.specs.Build.{IsWithinSpan}
+use Rattle.game_model.specs.Bounds.{IsWithinSpan}
 use Rattle.game_model.specs.declared.parts.Landing.{Landing}
 use Rattle.game_model.proofs.Pay.{each-from}
 use Rattle.game_model.proofs.Games.{row-in, row-weights}

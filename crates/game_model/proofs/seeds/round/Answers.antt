@@ -1,8 +1,8 @@
 use Rattle.std.proofs.Common.{rules, arith, ◌∙◌, ◌<◌, length}
-use Rattle.std.specs.Prelude.{ℤ, pos, FitsSigned, slice_index_or}
+use Rattle.std.specs.Prelude.{pos, FitsSigned, slice_index_or}
 use Rattle.std.specs.Int.{w128}
 use Rattle.std.proofs.lemmas.Int.{to_z-of_z}
-use Rattle.game_model.specs.Build.{IsWithinSpan}
+use Rattle.game_model.specs.Bounds.{IsWithinSpan}
 use Rattle.game_model.specs.Game.{GameData, numbers}
 use Rattle.game_model.specs.Seeds.{IsLeastFloor}
 use Rattle.game_model.proofs.Front.{each-by-place}

@@ -1,6 +1,6 @@
 use Rattle.std.proofs.Common.{ℕ, ◌<◌}
 use Rattle.std.specs.Prelude.{pos, slice_index_or}
-use Rattle.game_model.specs.Build.{IsWithinSpan}
+use Rattle.game_model.specs.Bounds.{IsWithinSpan}
 use Rattle.game_model.specs.Game.{numbers}
 use Rattle.game_model.specs.Seeds.{IsLeastFloor}
 use Rattle.game_model.proofs.seeds.round.Given as goal

@@ -1,5 +1,5 @@
 use Rattle.std.specs.Prelude.{pos, slice_index_or}
-use Rattle.game_model.specs.Build.{IsBounded}
+use Rattle.game_model.specs.Bounds.{IsBounded}
 use Rattle.game_model.specs.Game.{numbers, span}
 use Rattle.game_model.specs.Seeds.{IsSeedAfter}
 use Rattle.game_model.proofs.seeds.settle.Given as goal

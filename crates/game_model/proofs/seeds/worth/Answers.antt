@@ -1,9 +1,7 @@
-use Rattle.std.specs.Prelude.{ℤ, pos}
-use Rattle.std.proofs.Common.{◌≡◌, ◌∙◌, ap, get_or}
+use Rattle.std.specs.Prelude.{ℤ}
+use Rattle.std.proofs.Common.{◌∙◌, ap}
 use Rattle.std.proofs.lemmas.Int.{to_z-of_z}
 use Rattle.game_model.specs.Game.{GameData, reward_at}
-use Rattle.game_model.specs.Seeds.{stage_worth}
-use Rattle.game_model.specs.Build.{IsWorthWithin}
 use Rattle.game_model.proofs.Worth.{found, found-fits, found-is, found-within}
 use Rattle.game_model.proofs.seeds.worth.Goals as goal
 

@@ -95,7 +95,7 @@ overflow_mul-later c =
     let fact_5 = f.rewards_fit in
     let fact_6 = f.at_once in
     let fact_7 = f.later_fits in
-    simp (c.discount-over.ensures, c.row_total.ensures, to_z-of_z) f.discounted
+    simp (c.discount-over.ensures, to_z-of_z) f.discounted
 
 pub overflow_add-result : goal.overflow_add-result
 overflow_add-result c =

@@ -1,10 +1,11 @@
-use Rattle.std.proofs.Common.{rules, ◌≡◌, unsigned_abs, map, max, List, subst, sym, ap, ◌∙◌}
-use Rattle.std.specs.Prelude.{pos, FitsSigned, fold, ℕ, ℤ}
+use Rattle.std.proofs.Common.{rules, ◌≡◌, unsigned_abs, max, List, subst, sym, ap, ◌∙◌}
+use Rattle.std.specs.Prelude.{pos, FitsSigned, fold, ℤ}
 use Rattle.std.specs.List.{AllByRecursion}
 use Rattle.std.specs.Int.{w128}
 use Rattle.std.proofs.lemmas.Int.{to_z-of_z}
 use Rattle.std.proofs.lemmas.List.Folds.{fold-map}
-use Rattle.game_model.specs.Build.{span_from, data_of}
+use Rattle.game_model.specs.Build.{data_of}
+use Rattle.game_model.specs.Bounds.{span_from}
 use Rattle.game_model.specs.Game.{IsRewardInRange, IsNarrow, greatest_reward}
 use Rattle.game_model.specs.declared.parts.Entry.{Entry}
 use Rattle.game_model.proofs.Entries.{each-unmap}

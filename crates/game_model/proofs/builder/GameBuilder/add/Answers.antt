@@ -1,5 +1,5 @@
 use Rattle.std.proofs.Common.{rules, arith, ◌≡◌, ◌<◌, ◌-◌, ℕ, sym, subst, ap, ◌∙◌, ◌++◌, ◌∷◌, [], length, List, slice_set}
-use Rattle.std.specs.Prelude.{ℤ, pos, FitsSigned, ◌+ℤ◌}
+use Rattle.std.specs.Prelude.{ℤ, FitsSigned, ◌+ℤ◌}
 use Rattle.std.specs.Int.{w128}
 use Rattle.std.proofs.lemmas.Int.{to_z-of_z}
 use Rattle.game_model.specs.Build.{IsBuilder, IsGameFront, IsBegun, data_of, with_landing}

@@ -1,10 +1,10 @@
-use Rattle.std.proofs.Common.{rules, ◌≡◌, subst, sym}
+use Rattle.std.proofs.Common.{rules, subst, sym}
 use Rattle.std.specs.Prelude.{ℤ, pos, FitsSigned, ◌+ℤ◌, ◌≤ℤ◌}
 use Rattle.std.specs.Bool.{IsTrue}
 use Rattle.std.specs.Int.{w128}
 use Rattle.std.specs.Int.Signed.{le_z}
 use Rattle.std.proofs.lemmas.Int.{to_z-of_z}
-use Rattle.game_model.specs.Build.{HasWeightLeft, data_of}
+use Rattle.game_model.specs.Build.{HasWeightLeft}
 use Rattle.game_model.specs.Game.{GameData}
 use Rattle.game_model.proofs.Games.{row-sum-low}
 use Rattle.game_model.proofs.Width.{at_most, filled_fits}

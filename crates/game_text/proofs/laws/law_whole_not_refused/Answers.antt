@@ -1,0 +1,5 @@
+use Rattle.game_text.proofs.Accept.{whole_not_refused}
+use Rattle.game_text.proofs.laws.law_whole_not_refused.Goals as goal
+
+pub returns : goal.returns
+returns c = whole_not_refused

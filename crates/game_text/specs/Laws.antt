@@ -1,0 +1,58 @@
+-- What makes acceptance and refusal exact.
+use Rattle.std.specs.Prelude.{◌≡◌, ◌⊎◌, ℕ, List, [], ◌++◌}
+use Rattle.text_words.specs.Lines.{Line, lines_of, after_lines}
+use Rattle.game_model.specs.Game.{GameData}
+use Rattle.game_text.specs.declared.fault.Kind.{Kind}
+use Rattle.game_text.specs.Text.{IsTextOf}
+use Rattle.game_text.specs.Entries.{Entry}
+use Rattle.game_text.specs.Reading.{Accepts, Refuses, RefusesAlone}
+
+-- a text is of one game, and ends at one place
+abbrev pub TextsAreGames : Type 0
+TextsAreGames =
+    (text rest : List ℕ) (g h : GameData) (other : List ℕ) →
+    IsTextOf g text rest → IsTextOf h text other → (g ≡ h) × (rest ≡ other)
+
+-- what is accepted is a text of a game
+abbrev pub LinesAreTexts : Type 0
+LinesAreTexts =
+    (text : List ℕ) (count : ℕ) (entries : List Entry) (rest : List Line) →
+    Accepts (lines_of text) count entries rest → (g : GameData) × IsTextOf g text (after_lines count text)
+
+-- each text of a game is accepted
+abbrev pub TextsAreRead : Type 0
+TextsAreRead =
+    (text rest : List ℕ) (g : GameData) → IsTextOf g text rest →
+    (count : ℕ) × (entries : List Entry) × Accepts (lines_of text) count entries (lines_of rest) × (after_lines count text ≡ rest)
+
+-- a text is refused at one line, with one kind
+abbrev pub RefusedOnce : Type 0
+RefusedOnce = (text : List ℕ) (m n : ℕ) (j k : Kind) → RefusesAlone text m j → RefusesAlone text n k → (m ≡ n) × (j ≡ k)
+
+-- what is a text of a game is not refused
+abbrev pub TextsAreNotRefused : Type 0
+TextsAreNotRefused =
+    (text rest : List ℕ) (g : GameData) (number : ℕ) (kind : Kind) →
+    IsTextOf g text rest → Refuses (lines_of text) number kind → ⊥
+
+-- what is a text of a game to its last byte is not refused alone
+abbrev pub WholeTextsAreNotRefused : Type 0
+WholeTextsAreNotRefused =
+    (text : List ℕ) (g : GameData) (number : ℕ) (kind : Kind) →
+    IsTextOf g text [] → RefusesAlone text number kind → ⊥
+
+-- a text of a game at the front of bytes is one whatever bytes follow it
+abbrev pub AnyRest : Type 0
+AnyRest =
+    (g : GameData) (front rest other : List ℕ) →
+    IsTextOf g (front ++ rest) rest → IsTextOf g (front ++ other) other
+
+-- bytes begin with a text of a game, or are refused
+abbrev pub Decided : Type 0
+Decided =
+    (text : List ℕ) →
+    ((g : GameData) × (rest : List ℕ) × IsTextOf g text rest) ⊎ ((number : ℕ) × (kind : Kind) × Refuses (lines_of text) number kind)
+
+-- bytes are a text of a game, or are refused alone
+abbrev pub DecidedAlone : Type 0
+DecidedAlone = (text : List ℕ) → ((g : GameData) × IsTextOf g text []) ⊎ ((number : ℕ) × (kind : Kind) × RefusesAlone text number kind)

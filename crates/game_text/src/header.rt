@@ -1,0 +1,165 @@
+ghost use Rattle.std.specs.Prelude.{◌≡◌, ◌≤◌, ◌<◌, ℕ, ℤ, List, [], ◌∷◌, length, map, IfOk, IfErr, pos, ◌==◌, ◌≤ℤ◌};
+ghost use Rattle.std.specs.List.{after_first};
+ghost use Rattle.text_words.specs.Lines.{after_lines, lines_of};
+ghost use Rattle.game_model.specs.Game.{IsShape, IsWithin};
+ghost use Rattle.game_text.specs.Fault.{Gives};
+ghost use Rattle.game_text.specs.Reading.{Reads, first_of, line_at};
+ghost use Rattle.game_text.specs.Entries.{Entry, Version, Size, Total, Discount, First, shape_in, size_said, total_said, discount_said, first_said};
+ghost use Rattle.game_text.specs.Header.{AreSizes, said_by};
+ghost use Rattle.game_text.specs.Answers.{IsFaultOf};
+ghost use Rattle.game_text.specs.Limits.{IsDiscount};
+
+use crate::fault::{Kind, LineFault, TextFault, numbered};
+use crate::forms::{
+    MOST_TOTAL, discount_within, limited, numbers_after, total_within, version, weights_within,
+    within,
+};
+use game_model::Shape;
+use std::alloc::Global;
+
+/// The lines before the rows.
+#[derive(Debug, Drop)]
+pub struct Header {
+    pub shape: Shape,
+    pub first: Vec<i128>,
+}
+
+/// How many states, own actions, informed actions and observations there are.
+#[derive(Clone, Copy, Debug)]
+struct Sizes {
+    states: u32,
+    own_actions: u32,
+    informed_actions: u32,
+    observations: u32,
+}
+
+/// The words of the first line, and what follows it.
+pub fn first_words(alloc: Global, text: &[u8]) -> Result<(Vec<&[u8]>, &[u8]), LineFault>
+    ensures gives { Gives (λ found. (map (λ word. word.now) found.0.items, lines_of found.1.now)) result (first_of (lines_of text.now)) }
+    ensures after { IfOk result (λ found. found.1.now ≡ after_first (λ b. b == 10) text.now) }
+    ensures shorter { IfOk result (λ found. length found.1.now < length text.now) }
+{
+    let (line, rest) = text_words::split_line(text).ok_or(Kind::Missing)?;
+    Ok((text_words::words(alloc, line)?, rest))
+}
+
+#[tactic(auto, unfolding(crate::specs::Entries::version_said, crate::specs::Entries::entry_of, crate::specs::Reading::line_at))]
+fn version_line(alloc: Global, text: &[u8]) -> Result<&[u8], LineFault>
+    ensures gives { Gives (λ rest. (Version, lines_of rest.now)) result (line_at [] (lines_of text.now)) }
+    ensures after { IfOk result (λ rest. rest.now ≡ after_first (λ b. b == 10) text.now) }
+{
+    let (words, rest) = first_words(alloc, text)?;
+    version(&words)?;
+    Ok(rest)
+}
+
+#[tactic(auto, unfolding(crate::specs::Entries::size_said))]
+fn size_said(alloc: Global, words: &[&[u8]]) -> Result<Sizes, LineFault>
+    ensures gives { Gives (λ sizes. Size sizes.states sizes.own_actions sizes.informed_actions sizes.observations) result (size_said (map (λ word. word.now) words.now)) }
+    ensures limits { IfOk result AreSizes }
+{
+    let numbers = numbers_after(alloc, words, b"size", 4)?;
+    Ok(Sizes {
+        states: within(1, 16, numbers[0])?,
+        own_actions: within(1, 6, numbers[1])?,
+        informed_actions: within(1, 6, numbers[2])?,
+        observations: within(1, 8, numbers[3])?,
+    })
+}
+
+#[tactic(auto, unfolding(crate::specs::Entries::total_said))]
+fn total_said(alloc: Global, words: &[&[u8]]) -> Result<i128, LineFault>
+    ensures gives { Gives (λ total. Total total) result (total_said (map (λ word. word.now) words.now)) }
+    ensures least { IfOk result (λ total. pos 1 ≤ℤ total) }
+    ensures most { IfOk result (λ total. total ≤ℤ pos 1073741824) }
+{
+    let numbers = numbers_after(alloc, words, b"total", 1)?;
+    Ok(limited(1, MOST_TOTAL, numbers[0])?)
+}
+
+#[tactic(auto, unfolding(crate::specs::Entries::discount_said))]
+fn discount_said(alloc: Global, words: &[&[u8]]) -> Result<(i128, i128), LineFault>
+    ensures gives { Gives (λ discount. Discount discount.0 discount.1) result (discount_said (map (λ word. word.now) words.now)) }
+    ensures limits { IfOk result IsDiscount }
+{
+    let numbers = numbers_after(alloc, words, b"discount", 2)?;
+    Ok(discount_within(numbers[0], numbers[1])?)
+}
+
+#[tactic(auto, unfolding(crate::specs::Entries::first_said))]
+fn first_said(alloc: Global, words: &[&[u8]], states: u32) -> Result<Vec<i128>, LineFault>
+    requires { states ≤ 16 }
+    ensures { Gives (λ weights. First weights.items) result (first_said states (map (λ word. word.now) words.now)) }
+{
+    let weights = numbers_after(alloc, words, b"first", states as usize)?;
+    weights_within(&weights)?;
+    total_within(&weights)?;
+    Ok(weights)
+}
+
+#[tactic(auto, unfolding(crate::specs::Entries::entry_of, crate::specs::Reading::line_at))]
+fn size_line(alloc: Global, text: &[u8]) -> Result<(Sizes, &[u8]), LineFault>
+    ensures gives { Gives (λ found. (Size found.0.states found.0.own_actions found.0.informed_actions found.0.observations, lines_of found.1.now)) result (line_at (Version ∷ []) (lines_of text.now)) }
+    ensures limits { IfOk result (λ found. AreSizes found.0) }
+    ensures after { IfOk result (λ found. found.1.now ≡ after_first (λ b. b == 10) text.now) }
+{
+    let (words, rest) = first_words(alloc, text)?;
+    let sizes = size_said(alloc, &words)?;
+    Ok((sizes, rest))
+}
+
+#[tactic(auto, unfolding(crate::specs::Entries::entry_of, crate::specs::Reading::line_at))]
+fn total_line(alloc: Global, text: &[u8]) -> Result<(i128, &[u8]), LineFault>
+    ensures gives { (s a c o : ℕ) (before : List Entry) → Gives (λ found. (Total found.0, lines_of found.1.now)) result (line_at (Size s a c o ∷ before) (lines_of text.now)) }
+    ensures limits { IfOk result (λ found. IsWithin (pos 1) (pos 1073741824) found.0) }
+    ensures after { IfOk result (λ found. found.1.now ≡ after_first (λ b. b == 10) text.now) }
+{
+    let (words, rest) = first_words(alloc, text)?;
+    let total = total_said(alloc, &words)?;
+    Ok((total, rest))
+}
+
+#[tactic(auto, unfolding(crate::specs::Entries::entry_of, crate::specs::Reading::line_at))]
+fn discount_line(alloc: Global, text: &[u8]) -> Result<((i128, i128), &[u8]), LineFault>
+    ensures gives { (total : ℤ) (before : List Entry) → Gives (λ found. (Discount found.0.0 found.0.1, lines_of found.1.now)) result (line_at (Total total ∷ before) (lines_of text.now)) }
+    ensures limits { IfOk result (λ found. IsDiscount found.0) }
+    ensures after { IfOk result (λ found. found.1.now ≡ after_first (λ b. b == 10) text.now) }
+{
+    let (words, rest) = first_words(alloc, text)?;
+    let discount = discount_said(alloc, &words)?;
+    Ok((discount, rest))
+}
+
+#[tactic(auto, unfolding(crate::specs::Entries::entry_of, crate::specs::Reading::line_at))]
+fn first_line(alloc: Global, states: u32, text: &[u8]) -> Result<(Vec<i128>, &[u8]), LineFault>
+    requires { states ≤ 16 }
+    ensures gives { (over under : ℤ) (before : List Entry) → (shape_in before).states ≡ states → Gives (λ found. (First found.0.items, lines_of found.1.now)) result (line_at (Discount over under ∷ before) (lines_of text.now)) }
+    ensures after { IfOk result (λ found. found.1.now ≡ after_first (λ b. b == 10) text.now) }
+{
+    let (words, rest) = first_words(alloc, text)?;
+    let first = first_said(alloc, &words, states)?;
+    Ok((first, rest))
+}
+
+/// The header of a text, and what follows it.
+pub fn read_header(alloc: Global, text: &[u8]) -> Result<(Header, &[u8]), TextFault>
+    ensures found { IfOk result (λ found. Reads (lines_of text.now) 5 (said_by found.0) (lines_of found.1.now)) }
+    ensures shape { IfOk result (λ found. IsShape found.0.shape) }
+    ensures after { IfOk result (λ found. found.1.now ≡ after_lines 5 text.now) }
+    ensures refused { IfErr result (IsFaultOf (lines_of text.now)) }
+{
+    let rest = numbered(version_line(alloc, text), 1)?;
+    let (sizes, rest) = numbered(size_line(alloc, rest), 2)?;
+    let (row_total, rest) = numbered(total_line(alloc, rest), 3)?;
+    let (discount, rest) = numbered(discount_line(alloc, rest), 4)?;
+    let (first, rest) = numbered(first_line(alloc, sizes.states, rest), 5)?;
+    let shape = Shape {
+        states: sizes.states,
+        own_actions: sizes.own_actions,
+        informed_actions: sizes.informed_actions,
+        observations: sizes.observations,
+        row_total,
+        discount,
+    };
+    Ok((Header { shape, first }, rest))
+}

@@ -1,0 +1,46 @@
+ghost use Rattle.game_text.specs.Laws.{AnyRest, Decided, DecidedAlone, LinesAreTexts, RefusedOnce, TextsAreGames, TextsAreNotRefused, TextsAreRead, WholeTextsAreNotRefused};
+
+/// A law: a text is of one game, and ends at one place.
+pub fn law_games()
+    ensures { TextsAreGames }
+{}
+
+/// A law: lines that are accepted are a text of a game.
+pub fn law_accepted()
+    ensures { LinesAreTexts }
+{}
+
+/// A law: each text of a game is accepted.
+pub fn law_read()
+    ensures { TextsAreRead }
+{}
+
+/// A law: a text is refused at one line, with one kind.
+pub fn law_refused_once()
+    ensures { RefusedOnce }
+{}
+
+/// A law: what begins with a text of a game is not refused.
+pub fn law_not_refused()
+    ensures { TextsAreNotRefused }
+{}
+
+/// A law: a whole text of a game is not refused where it is read alone.
+pub fn law_whole_not_refused()
+    ensures { WholeTextsAreNotRefused }
+{}
+
+/// A law: a text of a game at the front of bytes is one whatever bytes follow it.
+pub fn law_any_rest()
+    ensures { AnyRest }
+{}
+
+/// A law: bytes begin with a text of a game, or are refused.
+pub fn law_decided()
+    ensures { Decided }
+{}
+
+/// A law: bytes are a text of a game, or are refused where they are read alone.
+pub fn law_decided_alone()
+    ensures { DecidedAlone }
+{}

@@ -1,0 +1,21 @@
+//! The text of a game, and its reader.
+#![tactic(auto)]
+
+mod body;
+mod build;
+mod fault;
+mod forms;
+mod header;
+mod laws;
+mod place;
+mod rows;
+#[cfg(test)]
+mod tests;
+mod texts;
+
+pub use fault::{Kind, TextFault};
+pub use laws::{
+    law_accepted, law_any_rest, law_decided, law_decided_alone, law_games, law_not_refused,
+    law_read, law_refused_once, law_whole_not_refused,
+};
+pub use texts::{read, read_alone};

@@ -1,0 +1,166 @@
+ghost use Rattle.std.specs.Prelude.{◌≡◌, ◌≤◌, ◌<◌, ◌^◌, length, map, IfOk, OnOk, pos, ◌≤ℤ◌, ◌+ℤ◌, ◌*ℤ◌, neg_ℤ, max, unsigned_abs};
+ghost use Rattle.game_model.specs.Game.{IsShape, triples};
+ghost use Rattle.game_text.specs.Fault.{Gives};
+ghost use Rattle.game_text.specs.Forms.{next_triple, full_row, narrow_reward, later_pair, fits_row};
+ghost use Rattle.game_text.specs.Entries.{step_said, out_said, end_said, row_end_said};
+ghost use Rattle.game_text.specs.Place.{IsPlace, FitsPlace, entry_in, pair_of, row_said};
+
+use crate::fault::{Kind, LineFault};
+use crate::forms::{MOST_TOTAL, begins, below_limit, limited, numbers_after};
+use crate::place::{Latest, Place, RowEntry};
+use game_model::{Landing, Shape};
+use std::alloc::Global;
+
+/// The greatest product of the width rule.
+const MOST_WIDTH: i128 = 1 << 72;
+
+/// The triple is the next one, where so many were begun.
+#[tactic(auto, unfolding(crate::specs::Forms::next_triple))]
+fn next_triple(shape: Shape, begun: u32, state: u32, own: u32, informed: u32) -> Result<(), Kind>
+    requires { IsShape shape }
+    ensures { result ≡ next_triple shape begun state own informed }
+{
+    let round = begun / shape.informed_actions;
+    if state == round / shape.own_actions
+        && own == round % shape.own_actions
+        && informed == begun % shape.informed_actions
+    {
+        Ok(())
+    } else {
+        Err(Kind::Order)
+    }
+}
+
+/// No row was begun, or the weights of the last one sum to the row total.
+#[tactic(auto, unfolding(crate::specs::Forms::full_row))]
+fn full_row(shape: Shape, begun: u32, sum: i128) -> Result<(), Kind>
+    ensures { result ≡ full_row shape begun sum }
+{
+    if begun != 0 && (sum < shape.row_total || sum > shape.row_total) {
+        return Err(Kind::Total);
+    }
+    Ok(())
+}
+
+/// The width of a reward: `D * Q * Q * max(1, |r|)`.
+fn width(shape: Shape, reward: i128) -> i128
+    requires shape { IsShape shape }
+    requires low { (neg_ℤ (pos 1073741824)) ≤ℤ reward }
+    requires high { reward ≤ℤ pos 1073741824 }
+    ensures { result ≡ shape.row_total *ℤ shape.discount.1 *ℤ shape.discount.1 *ℤ pos (max 1 (unsigned_abs reward)) }
+{
+    let under = shape.discount.1;
+    shape.row_total * under * under * reward.abs().max(1)
+}
+
+/// The width rule holds.
+#[tactic(auto, unfolding(crate::specs::Forms::narrow_reward))]
+fn narrow_reward(shape: Shape, reward: i128) -> Result<(), Kind>
+    requires shape { IsShape shape }
+    requires low { (neg_ℤ (pos 1073741824)) ≤ℤ reward }
+    requires high { reward ≤ℤ pos 1073741824 }
+    ensures { result ≡ narrow_reward shape reward }
+{
+    if width(shape, reward) > MOST_WIDTH {
+        return Err(Kind::Wide);
+    }
+    Ok(())
+}
+
+/// The pair is greater than that of an `out` line just before.
+#[tactic(auto, unfolding(crate::specs::Forms::later_pair))]
+fn later_pair(latest: Latest, seen: u32, to: u32) -> Result<(), Kind>
+    ensures { result ≡ later_pair (pair_of latest) seen to }
+{
+    match latest {
+        Latest::Pair(o, t) if (o, t) >= (seen, to) => Err(Kind::Order),
+        _ => Ok(()),
+    }
+}
+
+/// The row's sum stays within the row total.
+#[tactic(auto, unfolding(crate::specs::Forms::fits_row))]
+fn fits_row(place: &Place, weight: i128) -> Result<(), Kind>
+    requires place { IsPlace place.now }
+    requires low { pos 0 ≤ℤ weight }
+    requires high { weight ≤ℤ place.now.shape.row_total }
+    ensures kind { result ≡ fits_row place.now.shape place.now.sum weight }
+    ensures fits { OnOk result ((place.now.sum +ℤ weight) ≤ℤ place.now.shape.row_total) }
+{
+    if place.sum + weight > place.shape.row_total {
+        return Err(Kind::Total);
+    }
+    Ok(())
+}
+
+#[tactic(auto, unfolding(crate::specs::Entries::step_said))]
+fn step_line(alloc: Global, place: &Place, words: &[&[u8]]) -> Result<RowEntry, LineFault>
+    requires { IsPlace place.now }
+    ensures gives { Gives entry_in result (step_said place.now.shape place.now.begun place.now.sum (map (λ word. word.now) words.now)) }
+    ensures fits { IfOk result (FitsPlace place.now) }
+{
+    let shape = place.shape;
+    let numbers = numbers_after(alloc, words, b"step", 4)?;
+    let state = below_limit(shape.states, numbers[0])?;
+    let own = below_limit(shape.own_actions, numbers[1])?;
+    let informed = below_limit(shape.informed_actions, numbers[2])?;
+    let reward = limited(-MOST_TOTAL, MOST_TOTAL, numbers[3])?;
+    next_triple(shape, place.begun, state, own, informed)?;
+    full_row(shape, place.begun, place.sum)?;
+    narrow_reward(shape, reward)?;
+    Ok(RowEntry::Step {
+        state,
+        own,
+        informed,
+        reward,
+    })
+}
+
+#[tactic(auto, unfolding(crate::specs::Entries::out_said))]
+fn out_line(alloc: Global, place: &Place, words: &[&[u8]]) -> Result<RowEntry, LineFault>
+    requires { IsPlace place.now }
+    ensures gives { Gives entry_in result (out_said place.now.shape place.now.sum (pair_of place.now.latest) (map (λ word. word.now) words.now)) }
+    ensures fits { IfOk result (FitsPlace place.now) }
+{
+    let numbers = numbers_after(alloc, words, b"out", 3)?;
+    let seen = below_limit(place.shape.observations, numbers[0])?;
+    let to = below_limit(place.shape.states, numbers[1])?;
+    let weight = limited(1, place.shape.row_total, numbers[2])?;
+    later_pair(place.latest, seen, to)?;
+    fits_row(place, weight)?;
+    Ok(RowEntry::Out(Landing { seen, to, weight }))
+}
+
+#[tactic(auto, unfolding(crate::specs::Entries::end_said))]
+fn end_line(alloc: Global, place: &Place, words: &[&[u8]]) -> Result<RowEntry, LineFault>
+    ensures gives { Gives entry_in result (end_said place.now.shape place.now.begun place.now.sum (map (λ word. word.now) words.now)) }
+    ensures fits { IfOk result (FitsPlace place.now) }
+{
+    numbers_after(alloc, words, b"end", 0)?;
+    full_row(place.shape, place.begun, place.sum)?;
+    Ok(RowEntry::End)
+}
+
+/// How many rows there are.
+fn triples(shape: Shape) -> u32
+    requires { IsShape shape }
+    ensures { result ≡ triples shape }
+{
+    shape.states * shape.own_actions * shape.informed_actions
+}
+
+/// What a line of the rows says at a place.
+#[tactic(auto, unfolding(crate::specs::Place::row_said, crate::specs::Entries::row_end_said))]
+pub fn row_line(alloc: Global, place: &Place, words: &[&[u8]]) -> Result<RowEntry, LineFault>
+    requires { IsPlace place.now }
+    ensures gives { Gives entry_in result (row_said place.now (map (λ word. word.now) words.now)) }
+    ensures fits { IfOk result (FitsPlace place.now) }
+{
+    match place.latest {
+        Latest::Start => step_line(alloc, place, words),
+        Latest::Row => out_line(alloc, place, words),
+        Latest::Pair(_, _) if begins(b"out", words) => out_line(alloc, place, words),
+        Latest::Pair(_, _) if place.begun == triples(place.shape) => end_line(alloc, place, words),
+        Latest::Pair(_, _) => step_line(alloc, place, words),
+    }
+}

@@ -1,0 +1,100 @@
+-- Both halves worked out over the definitions: every number is computed, and both sides are equal.
+use Rattle.std.proofs.Common.{◌≡◌, ℕ, suc, zero, ◌*◌, ◌^◌, [], ◌∷◌, refl}
+use Rattle.std.specs.Prelude.{pos, ◌-ℤ◌, ◌*ℤ◌}
+use Rattle.scaled_num.specs.Sums.{below, total}
+use Rattle.alpha_set.specs.Nodes.{NodeData}
+use Rattle.belief.specs.Mixes.{MixesData}
+use Rattle.controller.specs.Certificates.{CertificateData, Closed, FractionData, first_total}
+use Rattle.game_model.specs.Branches.{Branch, mix_total}
+use Rattle.game_model.specs.Game.{GameData, first_at, numbers, span, unit}
+use Rattle.game_model.specs.Plan.{InformedPlan}
+use Rattle.game_model.specs.Play.{always, pay}
+use Rattle.game_model.specs.declared.parts.Landing.{Landing}
+use Rattle.game_model.specs.declared.parts.Shape.{Shape}
+use Rattle.history_model.specs.Halves.{common, hold, own}
+use Rattle.point_set.specs.Points.{PointData}
+
+abbrev branch : ℕ → ℕ → ℕ → ℕ → Branch
+branch a o k weight = record { own = a; seen = o; member = k; weight = pos weight }
+
+abbrev over : ℕ → ℕ → FractionData
+over num den = record { num = pos num; den = pos den }
+
+-- ---- one state, a reward of 3 each stage, discount 1/2: worth 6, which is the span
+abbrev three_halved : GameData
+three_halved = record {
+  shape = record { states = 1; own_actions = 1; informed_actions = 1; observations = 1; row_total = pos 1; discount = (pos 1, pos 2) };
+  first = pos 1 ∷ [];
+  rewards = pos 3 ∷ [];
+  rows = (record { seen = 0; to = 0; weight = pos 1 } ∷ []) ∷ [];
+}
+
+abbrev three_certificate : CertificateData
+three_certificate = record {
+  lower = over 393216 65536;
+  upper = over 393216 65536;
+  tail = over 393216 65536;
+  gap = over 0 1;
+  outcome = Closed;
+  nodes = record { vector = pos 393216 ∷ []; mix = pos 65536 ∷ []; next = branch 0 0 0 65536 ∷ [] } ∷ [];
+  points = record { belief = pos 1 ∷ []; value = pos 393216; mixes = record { states = 1; actions = 1; weights = pos 65536 ∷ [] }; splits = branch 0 0 0 65536 ∷ [] } ∷ [];
+  start_node = 0;
+  start_point = 0;
+}
+
+-- the one plan of the informed player, of total 1
+abbrev alone : (n : ℕ) → InformedPlan n
+alone zero = tt
+alone (suc n) = λ c a o t. (1, alone n) ∷ []
+
+-- over two stages there is one play, of weight 65536^2 and gain 3*4 + 3*2 = 18
+three_pay : pay (numbers three_halved) 2 0 (own three_certificate 2) (alone 2) ≡ pos (65536 ^ 2 * 18)
+three_pay = refl
+
+-- the lower half over two stages: 65536 * 18 * 65536^2 on both sides
+three_lower :
+    (pos 393216 *ℤ pos ((numbers three_halved).discount_under ^ 2) -ℤ pos ((numbers three_halved).discount_over ^ 2 * span three_halved * first_total three_halved)) *ℤ pos (((numbers three_halved).row_total * mix_total * 1) ^ 2)
+    ≡ pos unit *ℤ total (λ s. pos (first_at three_halved s) *ℤ pay (numbers three_halved) 2 s (own three_certificate 2) (alone 2)) (below 1)
+three_lower = refl
+
+-- ---- one of two states is drawn, and player one guesses it once
+abbrev landing : ℕ → Landing
+landing t = record { seen = 0; to = t; weight = pos 1 }
+
+abbrev guess_the_state : GameData
+guess_the_state = record {
+  shape = record { states = 2; own_actions = 2; informed_actions = 1; observations = 1; row_total = pos 1; discount = (pos 0, pos 1) };
+  first = pos 1 ∷ pos 1 ∷ [];
+  rewards = pos 1 ∷ pos 0 ∷ pos 0 ∷ pos 1 ∷ [];
+  rows = (landing 0 ∷ []) ∷ (landing 0 ∷ []) ∷ (landing 1 ∷ []) ∷ (landing 1 ∷ []) ∷ [];
+}
+
+abbrev sure : MixesData
+sure = record { states = 2; actions = 1; weights = pos 65536 ∷ pos 65536 ∷ [] }
+
+abbrev guess_certificate : CertificateData
+guess_certificate = record {
+  lower = over 65536 131072;
+  upper = over 65536 131072;
+  tail = over 65536 65536;
+  gap = over 1 100;
+  outcome = Closed;
+  nodes = record { vector = pos 65536 ∷ pos 0 ∷ []; mix = pos 65536 ∷ pos 0 ∷ []; next = branch 0 0 0 65536 ∷ [] } ∷ [];
+  points =
+      record { belief = pos 1 ∷ pos 0 ∷ []; value = pos 65536; mixes = sure; splits = branch 0 0 0 65536 ∷ branch 1 0 0 65536 ∷ [] }
+      ∷ record { belief = pos 0 ∷ pos 1 ∷ []; value = pos 65536; mixes = sure; splits = branch 0 0 1 65536 ∷ branch 1 0 1 65536 ∷ [] }
+      ∷ record { belief = pos 1 ∷ pos 1 ∷ []; value = pos 65536; mixes = sure; splits = branch 0 0 0 65536 ∷ branch 0 0 1 65536 ∷ branch 1 0 0 65536 ∷ branch 1 0 1 65536 ∷ [] }
+      ∷ [];
+  start_node = 0;
+  start_point = 2;
+}
+
+-- eight masses are positive, each 65536
+guess_common : common guess_the_state guess_certificate ≡ 65536 ^ 8
+guess_common = refl
+
+-- the upper half over one stage against always guessing state 0, where the tail is 0: 65536 * 65536 * 65536^8 on both sides
+guess_upper :
+    pos unit *ℤ total (λ s. pos (first_at guess_the_state s) *ℤ pay (numbers guess_the_state) 1 s (always 0 1) (hold guess_the_state guess_certificate s 1)) (below 2)
+    ≡ pos (65536 * 1 * 65536 * common guess_the_state guess_certificate)
+guess_upper = refl

@@ -1,0 +1,5 @@
+pub mod Products
+pub mod Choice
+pub mod Seeded
+pub mod Once
+pub mod Due

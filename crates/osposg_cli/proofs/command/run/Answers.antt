@@ -1,0 +1,17 @@
+use Rattle.std.proofs.Common.{rules, ◌≡◌, subst, sym}
+use Rattle.osposg_cli.proofs.Due.{complete_early, complete_whole, earns_whole, ends_whole}
+use Rattle.osposg_cli.proofs.command.run.Goals as goal
+
+pub returns-in-Ok-write_all-clause-ends : goal.returns-in-Ok-write_all-clause-ends
+returns-in-Ok-write_all-clause-ends g c = ends_whole _ _ _ _ _ _ _ _ c.in-Ok.ensures.due (search rules)
+
+pub returns-in-Ok-write_all-clause-complete : goal.returns-in-Ok-write_all-clause-complete
+returns-in-Ok-write_all-clause-complete g c bytes status text e answers calm still =
+    complete_whole c.law_answers.ensures _ _ _ _ _ bytes _ status _ text e c.in-Ok.ensures.due (search rules) answers
+
+pub returns-in-Ok-write_all-clause-floor_earns : goal.returns-in-Ok-write_all-clause-floor_earns
+returns-in-Ok-write_all-clause-floor_earns g c = earns_whole c.law_seeds.ensures.earn c.law_games.ensures _ _ _ _ _ _ _ c.in-Ok.ensures.due (search rules)
+
+pub returns-clause-complete : goal.returns-clause-complete
+returns-clause-complete g c bytes status text e answers calm still =
+    complete_early _ _ _ _ _ bytes _ status text e c.in-Err.ensures.early (search rules) answers

@@ -1,0 +1,94 @@
+ghost use Rattle.game_model.specs.Game.{IsGame, first_at, numbers, span};
+ghost use Rattle.game_model.specs.Numbers.{product};
+ghost use Rattle.game_model.specs.Seeds.{IsSeed};
+ghost use Rattle.osposg_cli.specs.Floor.{IsFloor, IsSeedProduct, floor_lines, floor_text};
+ghost use Rattle.scaled_num.specs.Sums.{below, total};
+ghost use Rattle.std.specs.List.{AllByRecursion};
+ghost use Rattle.std.specs.Prelude.{IfOk, ℕ, ℤ, length, pos, slice_index_or, unsigned_abs, ◌*ℤ◌, ◌<ℤ◌, ◌<◌, ◌^◌, ◌≡◌, ◌≤◌};
+ghost use Rattle.std.specs.String.{string_bytes};
+ghost use Rattle.scaled_num.specs.Printed.{fraction_text};
+
+use game_model::{Game, MOST_STATES, UNITS, law_game, law_seeds};
+use scaled_num::Fraction;
+use std::alloc::{AllocError, Global};
+
+/// The guaranteed bound of one fixed action.
+#[derive(Clone, Copy, Debug, PartialEq, Eq)]
+pub struct Floor {
+    /// The own action that is always played.
+    pub action: u32,
+    /// The product of its seed vector with the first belief: the bound in units, times the belief's total.
+    pub lower: i128,
+}
+
+/// The first own action whose seed vector has the greatest product with the first belief.
+pub fn best_action(game: &Game) -> Floor
+    ensures { IsFloor game.now result.action result.lower }
+{
+    law_game(game);
+    let mut best = Floor {
+        action: 0,
+        lower: seed_product(game, 0),
+    };
+    for action in 1..game.own_actions() {
+        let lower = seed_product(game, action);
+        if lower > best.lower {
+            best = Floor { action, lower };
+        }
+    }
+    best
+}
+
+/// The product of the first belief with the seed vector of an action.
+fn seed_product(game: &Game, action: u32) -> i128
+    requires { action < game.now.shape.own_actions }
+    ensures { IsSeedProduct game.now action result }
+{
+    law_game(game);
+    law_seeds();
+    let mut entries = [0; MOST_STATES];
+    let vector = &mut entries[..game.states() as usize];
+    game.steady(action, vector);
+    weighted(game.first(), vector)
+}
+
+/// The sum of a vector's entries by weights.
+fn weighted(weights: &[i128], vector: &[i128]) -> i128
+    requires same { length weights.now ≡ length vector.now }
+    requires few { length weights.now ≤ 16 }
+    requires weights { AllByRecursion (λ w. unsigned_abs w ≤ 2 ^ 20) weights.now }
+    requires entries { AllByRecursion (λ x. unsigned_abs x ≤ 2 ^ 70) vector.now }
+    ensures { result ≡ total (λ s. slice_index_or weights.now s (pos 0) *ℤ slice_index_or vector.now s (pos 0)) (below (length weights.now)) }
+{
+    let mut sum = 0;
+    for s in 0..weights.len() {
+        sum += weights[s] * vector[s];
+    }
+    sum
+}
+
+/// What `floor` writes.
+pub fn floor_text(alloc: Global, game: &Game, floor: &Floor) -> Result<Vec<u8>, AllocError>
+    ensures { IfOk result (λ text. text.items ≡ floor_text game.now floor.now.action floor.now.lower) }
+{
+    law_game(game);
+    let action = floor.action;
+    let lower = print_over(alloc, floor.lower, game.first_total() * UNITS)?;
+    let tail = print_over(alloc, game.span(), UNITS)?;
+    lines(alloc, action, &lower, &tail)
+}
+
+/// The three lines of `floor`.
+fn lines(alloc: Global, action: u32, lower: &str, tail: &str) -> Result<Vec<u8>, AllocError>
+    ensures { IfOk result (λ text. text.items ≡ floor_lines action lower.now tail.now) }
+{
+    Ok(format!(in alloc; "action {action}\nlower {lower}\ntail {tail}\n")?.into_bytes())
+}
+
+/// A fraction in plain digits, not reduced.
+fn print_over(alloc: Global, num: i128, den: i128) -> Result<String, AllocError>
+    requires { pos 0 <ℤ den }
+    ensures { IfOk result (λ text. string_bytes text ≡ fraction_text num den) }
+{
+    scaled_num::print(alloc, &Fraction { num, den })
+}
