@@ -3,16 +3,15 @@ use Rattle.std.proofs.Common.{◌≡◌, ◌⊎◌, ℕ, ◌+◌, ◌<◌, ◌�
 use Rattle.std.proofs.lemmas.Option.{none-some}
 use Rattle.std.proofs.lemmas.List.{append-nil}
 use Rattle.std.specs.Result.{MatchResult, IfOk, IsErrAnd}
-use Rattle.std.specs.Prelude.{ℤ, IfSome, ◌↔◌}
+use Rattle.std.specs.Prelude.{ℤ, IfSome, ◌↔◌, ⊤}
 use Rattle.hsvi_io.specs.Bytes.{GaveAll, GaveFront, GaveTooMany, Wrote, WroteFront}
 use Rattle.hsvi_io.specs.Causes.{Rose}
 use Rattle.cert_text.specs.Answers.{IsTextFor}
-use Rattle.cert_text.specs.Laws.{OneCertificate}
 use Rattle.controller.proofs.Places.{rules}
 use Rattle.controller.specs.Certificates.{CertificateData, CertificateStands, Closed, Ending, Full, IsWithinGap, OutcomeHolds, Trials}
 use Rattle.game_model.specs.Game.{GameData, IsGame, first_at, numbers, span}
 use Rattle.history_model.specs.Halves.{LowerHolds, UpperHolds}
-use Rattle.osposg_cli.specs.Check.{IsYesText, Proves}
+use Rattle.osposg_cli.specs.Check.{IsJudged, IsYesText, Proves}
 use Rattle.game_model.specs.Seeds.{SeedsEarn}
 use Rattle.game_model.proofs.Games.{keeps-span}
 use Rattle.game_text.specs.Laws.{TextsAreGames}
@@ -21,9 +20,10 @@ use Rattle.osposg_cli.specs.declared.status.Status.{Status}
 use Rattle.osposg_cli.specs.declared.status.Status.TheVariants.{Done, No, GameRefused, CertRefused, WordsRefused, ReadFault, WriteFault, OutOfMemory, TooLong}
 use Rattle.osposg_cli.specs.declared.words.Command.{Command}
 use Rattle.osposg_cli.specs.declared.words.Command.TheVariants.{Check, Floor}
-use Rattle.osposg_cli.specs.Answer.{Answers, AnswersAreOne, Ends, HasText, IsDue, IsEarly, IsInput, IsWork, most_input, words_refused}
+use Rattle.osposg_cli.specs.Answer.{Answers, AnswersAreOne, Ends, HasText, IsDue, IsEarly, IsInput, IsWork, NamesCommand, most_input, words_refused}
 use Rattle.osposg_cli.specs.Floor.{FloorEarns, floor_text}
 use Rattle.osposg_cli.specs.Words.{command_of}
+use Rattle.osposg_cli.proofs.Once.{none-refused}
 
 -- `map_err` keeps what is true of an `Ok`
 pub kept : {A E F : Type 0} (r : Result A E) (s : Result A F) (P : A → Type 0) (Q : E → F → Type 0) → MatchResult r (λ x. s ≡ Ok x) (λ e. IsErrAnd s (Q e)) → IfOk r P → IfOk s P
@@ -55,11 +55,11 @@ answers-work Check input Done text l h = ((l, h), tt)
 answers-work Check input No text l h = ((l, h), tt)
 answers-work Check input GameRefused text l h = ((l, h), tt)
 answers-work Check input CertRefused text l h = ((l, h), tt)
-answers-work Check input WordsRefused text l (g, rest, is, k, at, verdict) = absurd verdict
-answers-work Check input ReadFault text l (g, rest, is, k, at, verdict) = absurd verdict
-answers-work Check input WriteFault text l (g, rest, is, k, at, verdict) = absurd verdict
-answers-work Check input OutOfMemory text l (g, rest, is, k, at, verdict) = absurd verdict
-answers-work Check input TooLong text l (g, rest, is, k, at, verdict) = absurd verdict
+answers-work Check input WordsRefused text l (g, rest, is, (k, at, verdict)) = absurd verdict
+answers-work Check input ReadFault text l (g, rest, is, (k, at, verdict)) = absurd verdict
+answers-work Check input WriteFault text l (g, rest, is, (k, at, verdict)) = absurd verdict
+answers-work Check input OutOfMemory text l (g, rest, is, (k, at, verdict)) = absurd verdict
+answers-work Check input TooLong text l (g, rest, is, (k, at, verdict)) = absurd verdict
 
 pub due_work : (words : List (List ℕ)) (left new : Option (List ℕ)) (command : Command) (bytes : List ℕ) (status : Status) (text : List ℕ) →
     command_of words ≡ Some command → GaveAll left new bytes → length bytes ≤ most_input → IsWork command bytes status text → IsDue words left status text
@@ -162,6 +162,11 @@ earns_whole earn games words (Some left) room old written status text due wrote 
     (found.0, found.1, subst (Wrote room old written) found.2 wrote, found.3, found.4)
 
 -- ---- the promise of `check`
+abbrev is_open : Ending → Type 0
+is_open Closed = ⊥
+is_open Trials = ⊤
+is_open Full = ⊤
+
 proved : LowerHolds → UpperHolds → (g : GameData) (k : CertificateData) → IsGame g → CertificateStands g k → Proves g k
 proved low high g k game stands =
     let keeps = keeps-span g game in
@@ -177,23 +182,55 @@ proved low high g k game stands =
   where
     closed_is : (k : CertificateData) (ending : Ending) → k.outcome ≡ ending → OutcomeHolds k k.outcome → (k.outcome ≡ Closed) ↔ IsWithinGap k
     closed_is k Closed e h = (λ c. subst (OutcomeHolds k) e h, λ w. e)
-    closed_is k Trials e h = (λ c. absurd (not_closed (sym e ∙ c)), λ w. absurd (subst (OutcomeHolds k) e h w))
-      where
-        not_closed : Trials ≡ Closed → ⊥
-        not_closed ()
-    closed_is k Full e h = (λ c. absurd (not_closed (sym e ∙ c)), λ w. absurd (subst (OutcomeHolds k) e h w))
-      where
-        not_closed : Full ≡ Closed → ⊥
-        not_closed ()
+    closed_is k Trials e h = (λ c. absurd (subst is_open (sym e ∙ c) tt), λ w. absurd (subst (OutcomeHolds k) e h w))
+    closed_is k Full e h = (λ c. absurd (subst is_open (sym e ∙ c) tt), λ w. absurd (subst (OutcomeHolds k) e h w))
 
-pub proves_whole : LowerHolds → UpperHolds → TextsAreGames → OneCertificate → (words : List (List ℕ)) (left : Option (List ℕ)) (room : ℕ) (old written : Option (List ℕ)) (status : Status) (text : List ℕ) →
-    IsDue words left status text → Wrote room old written text → status ≡ Done → command_of words ≡ Some Check →
-    IfSome left (λ bytes. (g : GameData) × (rest : List ℕ) × (k : CertificateData) × (yes : List ℕ) × IsTextOf g bytes rest × IsTextFor g k rest
-    × IsYesText k yes × Wrote room old written yes × Proves g k)
-proves_whole low high games one words None room old written status text due wrote e named = tt
-proves_whole low high games one words (Some left) room old written status text due wrote e named =
-    from (at_done words left Check status text due e named)
-  where
-    from : Answers (Some Check) left Done text → (g : GameData) × (rest : List ℕ) × (k : CertificateData) × (yes : List ℕ) × IsTextOf g left rest × IsTextFor g k rest
+-- what a yes says of the bytes and of what was written
+abbrev IsProved : List ℕ → ℕ → Option (List ℕ) → Option (List ℕ) → Type 0
+IsProved bytes room old written =
+    (g : GameData) × (rest : List ℕ) × (k : CertificateData) × (yes : List ℕ) × IsTextOf g bytes rest × IsTextFor g k rest
     × IsYesText k yes × Wrote room old written yes × Proves g k
-    from (few, (g, rest, is, (k, at, (stands, yes)))) = (g, rest, k, text, is, at, yes, wrote, proved low high g k is.game stands)
+
+proved_of : LowerHolds → UpperHolds → (bytes text : List ℕ) (room : ℕ) (old written : Option (List ℕ)) → Wrote room old written text → Answers (Some Check) bytes Done text → IsProved bytes room old written
+proved_of low high bytes text room old written wrote (few, (g, rest, is, (k, at, (stands, lines)))) =
+    (g, rest, k, text, is, at, lines, wrote, proved low high g k is.game stands)
+
+pub proves_whole : LowerHolds → UpperHolds → (words : List (List ℕ)) (left : Option (List ℕ)) (room : ℕ) (old written : Option (List ℕ)) (status : Status) (text : List ℕ) →
+    IsDue words left status text → Wrote room old written text → status ≡ Done → command_of words ≡ Some Check → IfSome left (λ bytes. IsProved bytes room old written)
+proves_whole low high words None room old written status text due wrote e named = tt
+proves_whole low high words (Some left) room old written status text due wrote e named =
+    proved_of low high left text room old written wrote (at_done words left Check status text due e named)
+
+-- what is judged behind a game text is the answer of `check`
+pub check-judged : (g : GameData) (input rest : List ℕ) (status : Status) (text : List ℕ) → IsTextOf g input rest → IsJudged g rest status text → IsWork Check input status text
+check-judged g input rest Done text is judged = (g, rest, is, judged)
+check-judged g input rest No text is judged = (g, rest, is, judged)
+check-judged g input rest GameRefused text is (k, at, verdict) = absurd verdict
+check-judged g input rest CertRefused text is judged = (g, rest, is, judged)
+check-judged g input rest WordsRefused text is judged = (g, rest, is, judged)
+check-judged g input rest ReadFault text is judged = (g, rest, is, judged)
+check-judged g input rest WriteFault text is judged = (g, rest, is, judged)
+check-judged g input rest OutOfMemory text is judged = (g, rest, is, judged)
+check-judged g input rest TooLong text is judged = (g, rest, is, judged)
+
+-- an answer to an input is one where the words name a command
+named_by : (command : Option Command) (words : List (List ℕ)) → command_of words ≡ command → (input : List ℕ) (status : Status) (text : List ℕ) → Answers command input status text → (status ≡ WordsRefused → ⊥) → NamesCommand words
+named_by None words e input status text answer not = absurd (not (none-refused input status text answer))
+named_by (Some command) words e input status text answer not = (command, e)
+
+abbrev is_refused : Status → Type 0
+is_refused WordsRefused = ⊤
+is_refused status = ⊥
+
+not_refused : (status : Status) → (status ≡ Done) ⊎ (status ≡ No) ⊎ (status ≡ GameRefused) ⊎ (status ≡ CertRefused) → status ≡ WordsRefused → ⊥
+not_refused status one e = elim one [
+  inl a ↦ subst is_refused (sym e ∙ a) tt
+  | inr b ↦ elim b [
+    inl a ↦ subst is_refused (sym e ∙ a) tt
+    | inr b ↦ elim b [ inl a ↦ subst is_refused (sym e ∙ a) tt | inr a ↦ subst is_refused (sym e ∙ a) tt ]
+  ]
+]
+
+pub read_end : (words : List (List ℕ)) (left : Option (List ℕ)) (status : Status) (text : List ℕ) → IsDue words left status text →
+    (status ≡ Done) ⊎ (status ≡ No) ⊎ (status ≡ GameRefused) ⊎ (status ≡ CertRefused) → NamesCommand words
+read_end words left status text (input, is, answer, has) one = named_by (command_of words) words refl input status text answer (not_refused status one)

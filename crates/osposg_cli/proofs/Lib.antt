@@ -3,3 +3,5 @@ pub mod Choice
 pub mod Seeded
 pub mod Once
 pub mod Due
+pub mod Bounds
+pub mod Places

@@ -25,7 +25,7 @@ use Rattle.game_text.specs.Laws.{TextsAreNotRefused}
 use Rattle.game_text.specs.Reading.{Refuses, RefusesAlone}
 use Rattle.game_text.specs.Text.{IsTextOf}
 use Rattle.osposg_cli.specs.Answer.{Answers, AnswersAreOne, IsWork, game_refused, most_input, words_refused}
-use Rattle.osposg_cli.specs.Check.{IsJudged, IsVerdict, IsYesText, cert_refused, no_text, yes_lines}
+use Rattle.osposg_cli.specs.Check.{IsJudged, IsVerdict, IsYesText, cert_refused, no_text, placed, yes_lines}
 use Rattle.osposg_cli.proofs.Places.{down-once, up-once}
 use Rattle.scaled_num.specs.Printed.{fraction_text}
 use Rattle.text_words.specs.Lines.{lines_of}
@@ -155,6 +155,9 @@ none-view input WriteFault text h = absurd h
 none-view input OutOfMemory text h = absurd h
 none-view input TooLong text h = absurd h
 
+pub none-refused : (input : List ℕ) (status : Status) (text : List ℕ) → Answers None input status text → status ≡ WordsRefused
+none-refused input status text h = (none-view input status text h).0
+
 -- ---- one answer
 abbrev Same : Status → Status → List ℕ → List ℕ → Type 0
 Same status other text more = (status ≡ other) × (text ≡ more)
@@ -193,9 +196,9 @@ yes-once k text more l u t a b =
     let high = fraction_text k.upper.num k.upper.den in
     let end = fraction_text k.tail.num k.tail.den in
     a.same
-    ∙ ap (λ (x : List ℕ). yes_lines low x high a.up end a.most) (down-once k.lower.num k.lower.den a.down b.down l a.lower b.lower)
-    ∙ ap (λ (x : List ℕ). yes_lines low b.down high x end a.most) (up-once k.upper.num k.upper.den a.up b.up u a.upper b.upper)
-    ∙ ap (λ (x : List ℕ). yes_lines low b.down high b.up end x) (up-once k.tail.num k.tail.den a.most b.most t a.tail b.tail)
+    ∙ ap (λ (x : List ℕ). yes_lines (placed low x) (placed high a.up) (placed end a.most)) (down-once k.lower.num k.lower.den a.down b.down l a.lower b.lower)
+    ∙ ap (λ (x : List ℕ). yes_lines (placed low b.down) (placed high x) (placed end a.most)) (up-once k.upper.num k.upper.den a.up b.up u a.upper b.upper)
+    ∙ ap (λ (x : List ℕ). yes_lines (placed low b.down) (placed high b.up) (placed end x)) (up-once k.tail.num k.tail.den a.most b.most t a.tail b.tail)
     ∙ sym b.same
 
 pub verdict-once : FailsOnce → FailingFalls → (g : GameData) (k : CertificateData) (status other : Status) (text more : List ℕ) →

@@ -25,10 +25,13 @@ no_text StartAt = codes "no start\n"
 no_text BoundAt = codes "no bound\n"
 no_text OutcomeAt = codes "no outcome\n"
 
--- `yes` and three lines, each a fraction and its decimal places
-abbrev pub yes_lines : List ℕ → List ℕ → List ℕ → List ℕ → List ℕ → List ℕ → List ℕ
-yes_lines lower down upper up tail most =
-    codes "yes\nlower " ++ (lower ++ (32 ∷ (down ++ (codes "\nupper " ++ (upper ++ (32 ∷ (up ++ (codes "\ntail " ++ (tail ++ (32 ∷ (most ++ 10 ∷ [])))))))))))
+-- a fraction and its decimal places
+abbrev pub placed : List ℕ → List ℕ → List ℕ
+placed fraction places = fraction ++ (32 ∷ places)
+
+-- `yes` and the lines of both bounds and the tail
+abbrev pub yes_lines : List ℕ → List ℕ → List ℕ → List ℕ
+yes_lines lower upper tail = codes "yes\nlower " ++ (lower ++ (codes "\nupper " ++ (upper ++ (codes "\ntail " ++ (tail ++ 10 ∷ [])))))
 
 -- the bounds of a certificate: the lower one rounded down, the upper one and the tail rounded up
 pub record IsYesText (k : CertificateData) (text : List ℕ) : Type 0 where
@@ -38,7 +41,7 @@ pub record IsYesText (k : CertificateData) (text : List ℕ) : Type 0 where
   pub lower : IsDownText k.lower.num k.lower.den down
   pub upper : IsUpText k.upper.num k.upper.den up
   pub tail : IsUpText k.tail.num k.tail.den most
-  pub same : text ≡ yes_lines (fraction_text k.lower.num k.lower.den) down (fraction_text k.upper.num k.upper.den) up (fraction_text k.tail.num k.tail.den) most
+  pub same : text ≡ yes_lines (placed (fraction_text k.lower.num k.lower.den) down) (placed (fraction_text k.upper.num k.upper.den) up) (placed (fraction_text k.tail.num k.tail.den) most)
 
 -- the answer to a certificate that fits the game
 abbrev pub IsVerdict : GameData → CertificateData → Status → List ℕ → Type 0

@@ -15,7 +15,44 @@ const FIVE_EACH_TIME: [&str; 8] = [
     "end",
 ];
 
-/// The bound that `floor` writes for it.
+/// One state, a reward of 3 each stage, discount 1/2.
+const THREE_HALVED: [&str; 8] = [
+    "osposg 1",
+    "size 1 1 1 1",
+    "total 1",
+    "discount 1 2",
+    "first 1",
+    "step 0 0 0 3",
+    "out 0 0 1",
+    "end",
+];
+
+/// A certificate that closes its gap.
+const THREE_CERTIFICATE: [&str; 18] = [
+    "certificate 1",
+    "outcome closed",
+    "gap 0/1",
+    "lower 393216/65536",
+    "upper 393216/65536",
+    "tail 393216/65536",
+    "sizes 1 1",
+    "start 0 0",
+    "node 0",
+    "vector 393216",
+    "mix 65536",
+    "next 0 0 0 65536",
+    "point 0",
+    "belief 1",
+    "value 393216",
+    "mix 0 65536",
+    "split 0 0 0 65536",
+    "end",
+];
+
+/// What `check` writes of it.
+const THREE_YES: &str = "yes\nlower 393216/65536 6.000000\nupper 393216/65536 6.000000\ntail 393216/65536 6.000000\n";
+
+/// The bound that `floor` writes for five each time.
 const FIVE_BOUND: &str = "action 0\nlower 327680/65536\ntail 327680/65536\n";
 
 /// A text of these lines.
@@ -28,13 +65,20 @@ fn text_of(alloc: Global, lines: &[&str]) -> Result<String, Fail> {
     Ok(text)
 }
 
-/// The text with one line changed; lines are counted from 1.
-fn five_with(alloc: Global, number: usize, line: &str) -> Result<String, Fail> {
+/// The text of these lines with one of them changed; lines are counted from 1.
+fn changed(alloc: Global, lines: &[&str], number: usize, line: &str) -> Result<String, Fail> {
     let mut text = String::new(alloc);
-    for (place, old) in FIVE_EACH_TIME.iter().enumerate() {
+    for (place, old) in lines.iter().enumerate() {
         text.push_str(if place + 1 == number { line } else { old })?;
         text.push('\n')?;
     }
+    Ok(text)
+}
+
+/// One text after another.
+fn joined(alloc: Global, game: &str, certificate: &str) -> Result<String, Fail> {
+    let mut text = String::from_str(alloc, game)?;
+    text.push_str(certificate)?;
     Ok(text)
 }
 
@@ -76,7 +120,7 @@ fn floor_writes_the_bounds_of_worked_games(rt: HostRuntime) -> Result<(), Fail> 
 #[test]
 fn refused_games_name_the_first_line_and_its_least_kind(rt: HostRuntime) -> Result<(), Fail> {
     let alloc = rt.alloc();
-    let changed = [
+    let refused = [
         (1, "osposg 3", "game refused: line 1 kind 1\n"),
         (2, "size 1 1 1", "game refused: line 2 kind 2\n"),
         (3, "total 1x", "game refused: line 3 kind 3\n"),
@@ -88,8 +132,8 @@ fn refused_games_name_the_first_line_and_its_least_kind(rt: HostRuntime) -> Resu
         (6, "step 0 0 0 1073741825", "game refused: line 6 kind 4\n"),
         (7, "out 0 0 2", "game refused: line 7 kind 4\n"),
     ];
-    for (number, line, refusal) in changed {
-        let text = five_with(alloc, number, line)?;
+    for (number, line, refusal) in refused {
+        let text = changed(alloc, &FIVE_EACH_TIME, number, line)?;
         assert!(rt;
             answered(alloc, &["floor"], text.as_bytes(), refusal)? == (Status::GameRefused, true),
             "{line}"
@@ -164,5 +208,73 @@ fn a_failing_source_writes_nothing_and_a_failing_sink_a_front(rt: HostRuntime) -
     let mut sink = MemSink::new(alloc, 1024, 10, &[1])?;
     assert!(rt; run(alloc, &words, &mut source, &mut sink) == Status::WriteFault);
     assert!(rt; sink.written() == b"action 0\nl".as_slice());
+    Ok(())
+}
+
+#[test]
+fn a_certificate_that_stands_is_answered_with_its_bounds(rt: HostRuntime) -> Result<(), Fail> {
+    let alloc = rt.alloc();
+    let game = text_of(alloc, &THREE_HALVED)?;
+    let input = joined(alloc, &game, &text_of(alloc, &THREE_CERTIFICATE)?)?;
+    assert!(rt; answered(alloc, &["check"], input.as_bytes(), THREE_YES)? == (Status::Done, true));
+    assert!(rt; answered(alloc, &["check"], game.as_bytes(), "certificate refused: line 1 kind 10\n")? == (Status::CertRefused, true));
+    assert!(rt; answered(alloc, &["check"], b"", "game refused: line 1 kind 9\n")? == (Status::GameRefused, true));
+    Ok(())
+}
+
+#[test]
+fn changed_certificates_are_refused_or_fail_first(rt: HostRuntime) -> Result<(), Fail> {
+    let alloc = rt.alloc();
+    let game = text_of(alloc, &THREE_HALVED)?;
+    let answers = [
+        (2, "outcome open", Status::CertRefused, "certificate refused: line 2 kind 2\n"),
+        (2, "outcome trials", Status::No, "no outcome\n"),
+        (4, "lower 393215/65536", Status::No, "no bound\n"),
+        (7, "sizes 1025 1", Status::CertRefused, "certificate refused: line 7 kind 9\n"),
+        (8, "start 1 0", Status::CertRefused, "certificate refused: line 8 kind 6\n"),
+        (10, "vector 393217", Status::CertRefused, "certificate refused: line 10 kind 4\n"),
+        (11, "mix 65535", Status::CertRefused, "certificate refused: line 11 kind 7\n"),
+        (12, "next 0 0 0 65535", Status::CertRefused, "certificate refused: line 13 kind 7\n"),
+        (14, "belief 2", Status::CertRefused, "certificate refused: line 14 kind 7\n"),
+        (15, "value 393215", Status::No, "no value 0 action 0\n"),
+        (18, "end\nend", Status::CertRefused, "certificate refused: line 19 kind 8\n"),
+    ];
+    for (number, line, status, text) in answers {
+        let input = joined(alloc, &game, &changed(alloc, &THREE_CERTIFICATE, number, line)?)?;
+        assert!(rt; answered(alloc, &["check"], input.as_bytes(), text)? == (status, true), "{line}");
+    }
+    let cut = joined(alloc, &game, &text_of(alloc, &THREE_CERTIFICATE[..17])?)?;
+    assert!(rt; answered(alloc, &["check"], cut.as_bytes(), "certificate refused: line 18 kind 10\n")? == (Status::CertRefused, true));
+    Ok(())
+}
+
+#[test]
+fn the_first_failing_node_and_split_are_named(rt: HostRuntime) -> Result<(), Fail> {
+    let alloc = rt.alloc();
+    let node = "osposg 1\nsize 1 1 2 1\ntotal 1\ndiscount 1 2\nfirst 1\nstep 0 0 0 3\nout 0 0 1\nstep 0 0 1 4\nout 0 0 1\nend\n\
+        certificate 1\noutcome closed\ngap 1/100\nlower 393217/65536\nupper 393216/65536\ntail 524288/65536\nsizes 1 1\nstart 0 0\n\
+        node 0\nvector 393217\nmix 65536\nnext 0 0 0 65536\npoint 0\nbelief 1\nvalue 393216\nmix 0 65536 0\nsplit 0 0 0 65536\nend\n";
+    assert!(rt; answered(alloc, &["check"], node.as_bytes(), "no node 0 state 0 action 0\n")? == (Status::No, true));
+    let split = "osposg 1\nsize 2 2 1 1\ntotal 1\ndiscount 0 1\nfirst 1 1\nstep 0 0 0 1\nout 0 0 1\nstep 0 1 0 0\nout 0 0 1\n\
+        step 1 0 0 0\nout 0 1 1\nstep 1 1 0 1\nout 0 1 1\nend\n\
+        certificate 1\noutcome closed\ngap 1/100\nlower 65536/131072\nupper 65536/131072\ntail 65536/65536\nsizes 1 3\nstart 0 2\n\
+        node 0\nvector 65536 0\nmix 65536 0\nnext 0 0 0 65536\n\
+        point 0\nbelief 1 0\nvalue 65536\nmix 0 65536\nmix 1 65536\nsplit 0 0 0 65536\nsplit 1 0 0 65536\n\
+        point 1\nbelief 0 1\nvalue 65536\nmix 0 65536\nmix 1 65536\nsplit 0 0 1 65536\nsplit 1 0 1 65536\n\
+        point 2\nbelief 1 1\nvalue 65536\nmix 0 65536\nmix 1 65536\nsplit 0 0 0 65535\nsplit 0 0 1 65536\nsplit 1 0 0 65536\nsplit 1 0 1 65536\nend\n";
+    assert!(rt; answered(alloc, &["check"], split.as_bytes(), "no split 2 action 0 seen 0 state 0\n")? == (Status::No, true));
+    Ok(())
+}
+
+#[test]
+fn a_full_set_of_nodes_stands(rt: HostRuntime) -> Result<(), Fail> {
+    let alloc = rt.alloc();
+    let mut input = joined(alloc, &text_of(alloc, &THREE_HALVED)?, &text_of(alloc, &THREE_CERTIFICATE[..6])?)?;
+    input.push_str("sizes 1024 1\nstart 0 0\n")?;
+    for i in 0..1024 {
+        input.push_str(&format!(in alloc; "node {i}\nvector 393216\nmix 65536\nnext 0 0 {i} 65536\n")?)?;
+    }
+    input.push_str(&text_of(alloc, &THREE_CERTIFICATE[12..])?)?;
+    assert!(rt; answered(alloc, &["check"], input.as_bytes(), THREE_YES)? == (Status::Done, true));
     Ok(())
 }

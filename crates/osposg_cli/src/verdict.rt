@@ -1,14 +1,15 @@
 ghost use Rattle.cert_check.specs.Verdicts.{place_of};
 ghost use Rattle.controller.specs.Certificates.{CertificateStands};
 ghost use Rattle.controller.specs.Data.{certificate_data};
-ghost use Rattle.osposg_cli.specs.Check.{IsYesText, no_text, yes_lines};
-ghost use Rattle.scaled_num.specs.Printed.{IsDownText, IsUpText, fraction_text};
+ghost use Rattle.osposg_cli.specs.Check.{IsYesText, no_text, placed, yes_lines};
+ghost use Rattle.scaled_num.specs.Printed.{fraction_text};
 ghost use Rattle.std.specs.Prelude.{IfOk, ◌≡◌};
+ghost use Rattle.std.specs.String.{string_bytes};
 
 use cert_check::Reason;
 use controller::Certificate;
-use game_model::Game;
-use scaled_num::{decimals_down, decimals_up, print};
+use game_model::{Game, law_game};
+use scaled_num::{Fraction, decimals_down, decimals_up, print};
 use std::alloc::{AllocError, Global};
 
 /// What `check` writes of a certificate that stands: `yes`, its bounds and its tail.
@@ -16,24 +17,36 @@ pub fn yes_text(alloc: Global, game: &Game, certificate: &Certificate) -> Result
     requires { CertificateStands game.now (certificate_data certificate.now) }
     ensures { IfOk result (λ text. IsYesText (certificate_data certificate.now) text.items) }
 {
-    game_model::law_game(game);
-    let lower = print(alloc, &certificate.lower)?;
+    law_game(game);
     let down = decimals_down(alloc, &certificate.lower)?;
-    let upper = print(alloc, &certificate.upper)?;
+    let lower = placed(alloc, &certificate.lower, &down)?;
     let up = decimals_up(alloc, &certificate.upper)?;
-    let tail = print(alloc, &certificate.tail)?;
+    let upper = placed(alloc, &certificate.upper, &up)?;
     let most = decimals_up(alloc, &certificate.tail)?;
-    yes_lines(alloc, [&lower, &down], [&upper, &up], [&tail, &most])
+    let tail = placed(alloc, &certificate.tail, &most)?;
+    yes_lines(alloc, &lower, &upper, &tail)
 }
 
-/// The lines of a yes: each bound as a fraction and in decimal places.
-fn yes_lines(alloc: Global, lower: [&str; 2], upper: [&str; 2], tail: [&str; 2]) -> Result<Vec<u8>, AllocError>
-    ensures { IfOk result (λ text. text.items ≡ yes_lines lower.0.now lower.1.now upper.0.now upper.1.now tail.0.now tail.1.now) }
+/// A fraction and its decimal places.
+fn placed(alloc: Global, fraction: &Fraction, places: &str) -> Result<String, AllocError>
+    ensures { IfOk result (λ text. string_bytes text ≡ placed (fraction_text fraction.now.num fraction.now.den) places.now) }
 {
-    let [lower, down] = lower;
-    let [upper, up] = upper;
-    let [tail, most] = tail;
-    Ok(format!(in alloc; "yes\nlower {lower} {down}\nupper {upper} {up}\ntail {tail} {most}\n")?.into_bytes())
+    let fraction = print(alloc, fraction)?;
+    spaced(alloc, &fraction, places)
+}
+
+/// Two words with a space between them.
+fn spaced(alloc: Global, first: &str, second: &str) -> Result<String, AllocError>
+    ensures { IfOk result (λ text. string_bytes text ≡ placed first.now second.now) }
+{
+    format!(in alloc; "{first} {second}")
+}
+
+/// The lines of a yes.
+fn yes_lines(alloc: Global, lower: &str, upper: &str, tail: &str) -> Result<Vec<u8>, AllocError>
+    ensures { IfOk result (λ text. text.items ≡ yes_lines lower.now upper.now tail.now) }
+{
+    Ok(format!(in alloc; "yes\nlower {lower}\nupper {upper}\ntail {tail}\n")?.into_bytes())
 }
 
 /// What `check` writes of a certificate that does not stand: the first place that fails.

@@ -1,5 +1,5 @@
 use Rattle.std.proofs.Common.{rules, ◌≡◌, subst, sym}
-use Rattle.osposg_cli.proofs.Due.{complete_early, complete_whole, earns_whole, ends_whole, proves_whole}
+use Rattle.osposg_cli.proofs.Due.{complete_early, complete_whole, earns_whole, ends_whole, proves_whole, read_end}
 use Rattle.osposg_cli.proofs.command.run.Goals as goal
 
 pub returns-in-Ok-write_all-clause-ends : goal.returns-in-Ok-write_all-clause-ends
@@ -17,4 +17,7 @@ returns-clause-complete g c bytes status text e answers calm still =
     complete_early _ _ _ _ _ bytes _ status text e c.in-Err.ensures.early (search rules) answers
 
 pub returns-in-Ok-write_all-clause-check_proves : goal.returns-in-Ok-write_all-clause-check_proves
-returns-in-Ok-write_all-clause-check_proves g c = proves_whole c.law_controllers.ensures c.law_splittings.ensures c.law_games.ensures c.law_one.ensures _ _ _ _ _ _ _ c.in-Ok.ensures.due (search rules)
+returns-in-Ok-write_all-clause-check_proves g c = proves_whole c.law_controllers.ensures c.law_splittings.ensures _ _ _ _ _ _ _ c.in-Ok.ensures.due (search rules)
+
+pub returns-in-Ok-write_all-clause-read : goal.returns-in-Ok-write_all-clause-read
+returns-in-Ok-write_all-clause-read g c = λ one. c.in-Ok.ensures.read (read_end _ _ _ _ c.in-Ok.ensures.due one)
