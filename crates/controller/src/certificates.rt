@@ -86,5 +86,8 @@ fn is_gap(gap: &Fraction) -> bool
 fn is_short(fraction: &Fraction) -> bool
     ensures { IsTrue result ↔ IsShort (fraction_data fraction.now) }
 {
-    -SHORT_END < fraction.num && fraction.num < SHORT_END && 1 <= fraction.den && fraction.den < SHORT_END
+    -SHORT_END < fraction.num
+        && fraction.num < SHORT_END
+        && 1 <= fraction.den
+        && fraction.den < SHORT_END
 }
