@@ -5,10 +5,10 @@ ghost use Rattle.game_model.specs.Game.{IsWithin, numbers, span};
 ghost use Rattle.scaled_num.specs.Sums.{sum_of, total};
 ghost use Rattle.std.specs.Bool.{IsTrue};
 ghost use Rattle.std.specs.List.{AllByRecursion};
-ghost use Rattle.std.specs.Prelude.{if◌then◌else◌, length, map, neg_ℤ, pos, slice_index_or, ℕ, ◌&&◌, ◌<◌, ◌==◌, ◌^◌, ◌↔◌, ◌≡◌, ◌≤◌};
+ghost use Rattle.std.specs.Prelude.{if◌then◌else◌, length, map, pos, slice_index_or, ℕ, ◌&&◌, ◌<◌, ◌==◌, ◌↔◌, ◌≡◌};
 
 use alpha_set::{Node, NodeSet, Step};
-use game_model::{Game, law_game};
+use game_model::Game;
 
 /// The total of every mix, and the greatest weight in one.
 const MIX_TOTAL: i128 = 65_536;
