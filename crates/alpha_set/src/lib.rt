@@ -1,1 +1,12 @@
+//! Nodes of a controller: each an alpha-vector with a mix of own actions and the steps that follow, kept in a set.
 #![tactic(auto)]
+
+mod nodes;
+mod sets;
+mod stands;
+mod tables;
+#[cfg(test)]
+mod tests;
+
+pub use nodes::{Node, Step};
+pub use sets::{MOST_NODES, NodeSet, PushFault};

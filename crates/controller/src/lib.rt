@@ -1,1 +1,10 @@
+//! Certificates: a controller of player one and a splitting strategy of the informed player, with what they prove.
 #![tactic(auto)]
+
+mod certificates;
+mod nodes;
+mod points;
+#[cfg(test)]
+mod tests;
+
+pub use certificates::{Certificate, Outcome};

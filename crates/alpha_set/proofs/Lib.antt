@@ -1,0 +1,6 @@
+pub mod Totals
+pub mod Adding
+pub mod Rows
+pub mod Wide
+pub mod Filling
+pub mod Rules

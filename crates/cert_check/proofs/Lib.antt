@@ -1,0 +1,4 @@
+pub mod First
+pub mod Order
+pub mod Fits
+pub mod Gap

@@ -1,0 +1,33 @@
+-- The verdict of the checker, and the place that its reason names.
+use Rattle.std.specs.Prelude.{List, ◌++◌, ◌∷◌, ◌≡◌}
+use Rattle.std.specs.List.{AllByRecursion}
+use Rattle.game_model.specs.Game.{GameData}
+use Rattle.controller.specs.Certificates.{BoundAt, CertificateData, CertificateStands, CornerAt, FailsFirst, NodeAt, OutcomeAt, Place, SplitAt, StartAt, ValueAt}
+use Rattle.cert_check.specs.declared.verdicts.Reason.{Reason}
+use Rattle.cert_check.specs.declared.verdicts.Reason.TheVariants.{Bound, Corner, Node, Outcome, Split, Start, Value}
+
+-- the place that a reason names
+abbrev pub place_of : Reason → Place
+place_of (Node i s c) = NodeAt i s c
+place_of (Corner j) = CornerAt j
+place_of (Split j a o s) = SplitAt j a o s
+place_of (Value j a) = ValueAt j a
+place_of Start = StartAt
+place_of Bound = BoundAt
+place_of Outcome = OutcomeAt
+
+-- in a list, a rule fails first at this element: it fails there, and holds at each element before it
+pub record FirstIn {X : Type 0} (Holds : X → Type 0) (list : List X) (x : X) : Type 0 where
+  pub before : List X
+  pub after : List X
+  pub order : list ≡ before ++ (x ∷ after)
+  pub holds : AllByRecursion Holds before
+  pub fails : ¬ (Holds x)
+
+-- a certificate fails first at one place only
+abbrev pub FailsOnce : Type 0
+FailsOnce = (g : GameData) (k : CertificateData) (place other : Place) → FailsFirst g k place → FailsFirst g k other → place ≡ other
+
+-- a certificate that fails first at a place does not stand
+abbrev pub FailingFalls : Type 0
+FailingFalls = (g : GameData) (k : CertificateData) (place : Place) → FailsFirst g k place → ¬ (CertificateStands g k)

@@ -1,0 +1,12 @@
+//! A checker of certificates: yes, or the first place at which a certificate does not stand.
+#![tactic(auto)]
+
+mod bounds;
+mod checker;
+mod members;
+#[cfg(test)]
+mod tests;
+mod verdicts;
+
+pub use checker::{check, law_once};
+pub use verdicts::{Reason, Verdict};

@@ -1,0 +1,93 @@
+ghost use Rattle.controller.specs.Certificates.{CertificateFits, IsShort};
+ghost use Rattle.controller.specs.Data.{certificate_data, fraction_data};
+ghost use Rattle.game_model.specs.Game.{IsWithin};
+ghost use Rattle.std.specs.Bool.{IsTrue};
+ghost use Rattle.std.specs.Prelude.{pos, ◌^◌, ◌↔◌};
+
+use crate::nodes::nodes_fit;
+use crate::points::points_fit;
+use alpha_set::NodeSet;
+use game_model::Game;
+use point_set::PointSet;
+use scaled_num::Fraction;
+
+/// How a run of the solver ended.
+#[derive(Clone, Copy, Debug, PartialEq, Eq)]
+pub enum Outcome {
+    /// The gap was within the tolerance.
+    Closed,
+    /// The trials were used up.
+    Trials,
+    /// A set was full.
+    Full,
+}
+
+/// A controller as nodes and a splitting strategy as points, with their starts, the bounds that they are to prove,
+/// and how the run ended that made them.
+#[derive(Drop)]
+pub struct Certificate {
+    /// What the controller earns at least, less the tail.
+    pub lower: Fraction,
+    /// What player one earns at most against the splitting strategy, plus the tail.
+    pub upper: Fraction,
+    /// The tail at the horizon 0: the span in units of reward.
+    pub tail: Fraction,
+    /// The tolerance on upper less lower: numerator 0 to 2^40, denominator 1 to 2^20.
+    pub gap: Fraction,
+    /// How the run ended.
+    pub outcome: Outcome,
+    /// The nodes, by number.
+    pub nodes: NodeSet,
+    /// The points, by number; those below the number of states are the corners.
+    pub points: PointSet,
+    /// The node at which the controller starts.
+    pub start_node: u32,
+    /// The point at which the splitting strategy starts.
+    pub start_point: u32,
+}
+
+/// The greatest numerator of a gap.
+pub const MOST_GAP: i128 = 1 << 40;
+
+/// The greatest denominator of a gap.
+pub const MOST_GAP_UNDER: i128 = 1 << 20;
+
+/// The first number of 37 digits.
+const SHORT_END: i128 = 1_000_000_000_000_000_000_000_000_000_000_000_000;
+
+impl Certificate {
+    /// Whether the certificate fits a game: every node and point fits and names members, there is a node and a point
+    /// for each state, the starts are members, the gap is within its limits and no fraction has more than 36 digits.
+    /// It takes no memory.
+    pub fn fits(&self, game: &Game) -> bool
+        ensures { IsTrue result ↔ CertificateFits game.now (certificate_data self.now) }
+    {
+        1 <= self.nodes.len()
+            && game.states() <= self.points.len()
+            && self.start_node < self.nodes.len()
+            && self.start_point < self.points.len()
+            && is_gap(&self.gap)
+            && is_short(&self.lower)
+            && is_short(&self.upper)
+            && is_short(&self.tail)
+            && nodes_fit(game, &self.nodes)
+            && points_fit(game, &self.points)
+    }
+}
+
+/// Whether a gap is within its limits.
+fn is_gap(gap: &Fraction) -> bool
+    ensures { IsTrue result ↔ (IsWithin (pos 0) (pos (2 ^ 40)) gap.now.num × IsWithin (pos 1) (pos (2 ^ 20)) gap.now.den) }
+{
+    0 <= gap.num && gap.num <= MOST_GAP && 1 <= gap.den && gap.den <= MOST_GAP_UNDER
+}
+
+/// Whether numerator and denominator have at most 36 digits.
+fn is_short(fraction: &Fraction) -> bool
+    ensures { IsTrue result ↔ IsShort (fraction_data fraction.now) }
+{
+    -SHORT_END < fraction.num
+        && fraction.num < SHORT_END
+        && 1 <= fraction.den
+        && fraction.den < SHORT_END
+}
