@@ -2,11 +2,12 @@
 use Rattle.std.specs.Prelude.{ℕ, ◌≡◌, ◌≢◌, ◌/◌, ◌*◌, ◌^◌, ◌<◌, pos, ◌+ℤ◌, ◌-ℤ◌, ◌*ℤ◌, ◌≤ℤ◌, length}
 use Rattle.scaled_num.specs.Sums.{below, total}
 use Rattle.alpha_set.specs.Nodes.{nodes_of}
-use Rattle.controller.specs.Certificates.{CertificateData, first_total}
+use Rattle.controller.specs.Certificates.{CertificateData, CertificateStands, first_total}
 use Rattle.game_model.specs.Branches.{mix_total}
 use Rattle.game_model.specs.Game.{GameData, first_at, numbers, span, unit}
 use Rattle.game_model.specs.Plan.{InformedPlan, IsInformedPlan, IsOwnPlan, OwnPlan}
 use Rattle.game_model.specs.Play.{pay}
+use Rattle.game_model.specs.Seeds.{KeepsSpan}
 use Rattle.history_model.specs.Plans.{informed_plan, mass_product, own_plan}
 use Rattle.point_set.specs.Points.{mass, points_of}
 
@@ -58,3 +59,14 @@ MassesDivide g k =
     (j a o t : ℕ) → j < length k.points → a < g.shape.own_actions → o < g.shape.observations → t < g.shape.states →
     mass (numbers g) (points_of k.points j) a o t ≢ 0 →
     mass (numbers g) (points_of k.points j) a o t * (common g k / mass (numbers g) (points_of k.points j) a o t) ≡ common g k
+
+-- ---- of every certificate that stands
+pub record LowerHolds : Type 0 where
+  pub plan : (g : GameData) (k : CertificateData) → CertificateStands g k → OwnIsPlan g k
+  pub family : (g : GameData) (k : CertificateData) → KeepsSpan (numbers g) (span g) → CertificateStands g k → LowerHalf g k
+  pub state : (g : GameData) (k : CertificateData) → KeepsSpan (numbers g) (span g) → CertificateStands g k → LowerHalfAt g k
+
+pub record UpperHolds : Type 0 where
+  pub divide : (g : GameData) (k : CertificateData) → MassesDivide g k
+  pub plan : (g : GameData) (k : CertificateData) → CertificateStands g k → HoldIsPlan g k
+  pub half : (g : GameData) (k : CertificateData) → KeepsSpan (numbers g) (span g) → CertificateStands g k → UpperHalf g k

@@ -3,7 +3,7 @@ use Rattle.game_model.specs.Game.{GameData, numbers}
 use Rattle.history_model.specs.Halves.{MassesDivide}
 use Rattle.history_model.proofs.Splitting.{masses-divide}
 use Rattle.history_model.proofs.Standing.{hold-is_plan, upper-half}
-use Rattle.history_model.proofs.law_upper_numbers.Goals as goal
+use Rattle.history_model.proofs.law_splittings.Goals as goal
 use Rattle.point_set.specs.Points.{points_of}
 use Rattle.std.proofs.Common.{length}
 

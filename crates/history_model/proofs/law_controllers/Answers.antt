@@ -1,5 +1,5 @@
 use Rattle.history_model.proofs.Standing.{lower-half, lower-half_at, own-is_plan}
-use Rattle.history_model.proofs.law_lower_numbers.Goals as goal
+use Rattle.history_model.proofs.law_controllers.Goals as goal
 
 pub returns : goal.returns
 returns c = record { plan = own-is_plan; family = λ g k keeps. lower-half g k keeps.full; state = λ g k keeps. lower-half_at g k keeps.full }

@@ -1,0 +1,7 @@
+use Rattle.history_model.proofs.law_lower.Goals as goal
+
+pub returns-clause-plan : goal.returns-clause-plan
+returns-clause-plan c = c.law_controllers.ensures.plan _ _ c.requires
+
+pub returns-clause-state : goal.returns-clause-state
+returns-clause-state c = c.law_controllers.ensures.state _ _ c.law_game.ensures.keeps_span c.requires
