@@ -1,5 +1,5 @@
 -- The first element of a list at which a rule fails.
-use Rattle.std.proofs.Common.{◌≡◌, ℕ, zero, suc, ◌+◌, ◌<◌, ◌≤◌, List, [], ◌∷◌, ◌++◌, map, flat_map, length, refl, ap, arith, sym, subst, ◌∙◌, append_assoc}
+use Rattle.std.proofs.Common.{◌≡◌, ℕ, zero, suc, ◌+◌, ◌<◌, ◌≤◌, List, [], ◌∷◌, ◌++◌, map, flat_map, refl, ap, arith, sym, subst, ◌∙◌, append_assoc}
 use Rattle.std.specs.List.{AllByRecursion, range_with_len}
 use Rattle.scaled_num.specs.Sums.{below}
 use Rattle.scaled_num.proofs.Sums.{below-each, each-append, each-flat_map, each-map}

@@ -1,5 +1,5 @@
 -- The places of a certificate in their order: where members that fail first fail first among all places.
-use Rattle.std.proofs.Common.{◌≡◌, ℕ, zero, suc, ◌+◌, ◌<◌, ◌≤◌, Bool, true, false, cond, ◌==◌, ◌⊎◌, inl, inr, List, [], ◌∷◌, ◌++◌, map, flat_map, length, refl, ap, arith, sym, subst, ◌∙◌, eq-eqb}
+use Rattle.std.proofs.Common.{ℕ, ◌<◌, cond, ◌==◌, inl, inr, List, [], ◌∷◌, ◌++◌, map, flat_map, refl, arith, subst, eq-eqb}
 use Rattle.std.specs.List.{AllByRecursion}
 use Rattle.std.proofs.lemmas.Bool.Decides.{eqb_tells}
 use Rattle.scaled_num.specs.Sums.{below}

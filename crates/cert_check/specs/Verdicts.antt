@@ -1,5 +1,5 @@
 -- The verdict of the checker, and the place that its reason names.
-use Rattle.std.specs.Prelude.{ℕ, List, ◌++◌, ◌∷◌, ◌≡◌}
+use Rattle.std.specs.Prelude.{List, ◌++◌, ◌∷◌, ◌≡◌}
 use Rattle.std.specs.List.{AllByRecursion}
 use Rattle.game_model.specs.Game.{GameData}
 use Rattle.controller.specs.Certificates.{BoundAt, CertificateData, CertificateStands, CornerAt, FailsFirst, NodeAt, OutcomeAt, Place, SplitAt, StartAt, ValueAt}

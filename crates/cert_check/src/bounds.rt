@@ -6,7 +6,7 @@ ghost use Rattle.point_set.specs.Points.{points_of};
 ghost use Rattle.scaled_num.specs.Sums.{below, total};
 ghost use Rattle.std.specs.Bool.{IsTrue};
 ghost use Rattle.std.specs.List.{AllByRecursion};
-ghost use Rattle.std.specs.Prelude.{IfSome, IsNone, [], length, pos, slice_index_or, unsigned_abs, ℕ, ◌*◌, ◌*ℤ◌, ◌^◌, ◌∷◌, ◌↔◌, ◌≡◌, ◌≤◌};
+ghost use Rattle.std.specs.Prelude.{IfSome, IsNone, [], length, pos, slice_index_or, unsigned_abs, ◌*◌, ◌*ℤ◌, ◌^◌, ◌∷◌, ◌↔◌, ◌≡◌, ◌≤◌};
 
 use crate::verdicts::Reason;
 use controller::{Certificate, Outcome};

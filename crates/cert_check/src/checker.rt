@@ -29,8 +29,7 @@ pub fn check(game: &Game, certificate: &Certificate) -> Verdict
 pub fn law_once()
     ensures once { FailsOnce }
     ensures falls { FailingFalls }
-{
-}
+{}
 
 /// The first place at which a certificate fails.
 fn first_fault(game: &Game, certificate: &Certificate) -> Option<Reason>

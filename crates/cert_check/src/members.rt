@@ -1,10 +1,10 @@
 ghost use Rattle.cert_check.specs.Verdicts.{FirstIn, place_of};
-ghost use Rattle.controller.specs.Certificates.{CertificateFits, CornerAt, Holds, corner_places, node_places, point_places, split_places, value_places};
+ghost use Rattle.controller.specs.Certificates.{CertificateFits, CornerAt, Holds, node_places, point_places};
 ghost use Rattle.controller.specs.Data.{certificate_data};
 ghost use Rattle.scaled_num.specs.Sums.{below};
 ghost use Rattle.std.specs.Bool.{IsTrue};
 ghost use Rattle.std.specs.List.{AllByRecursion};
-ghost use Rattle.std.specs.Prelude.{IfSome, IsNone, flat_map, length, ◌++◌, ◌<◌, ◌↔◌};
+ghost use Rattle.std.specs.Prelude.{IfSome, IsNone, flat_map, length, ◌<◌, ◌↔◌};
 
 use crate::verdicts::Reason;
 use controller::Certificate;

@@ -6,9 +6,9 @@ ghost use Rattle.std.specs.Prelude.{pos, ◌^◌, ◌↔◌};
 
 use crate::nodes::nodes_fit;
 use crate::points::points_fit;
-use alpha_set::{MOST_NODES, NodeSet};
+use alpha_set::NodeSet;
 use game_model::Game;
-use point_set::{MOST_POINTS, PointSet};
+use point_set::PointSet;
 use scaled_num::Fraction;
 
 /// How a run of the solver ended.
@@ -86,5 +86,8 @@ fn is_gap(gap: &Fraction) -> bool
 fn is_short(fraction: &Fraction) -> bool
     ensures { IsTrue result ↔ IsShort (fraction_data fraction.now) }
 {
-    -SHORT_END < fraction.num && fraction.num < SHORT_END && 1 <= fraction.den && fraction.den < SHORT_END
+    -SHORT_END < fraction.num
+        && fraction.num < SHORT_END
+        && 1 <= fraction.den
+        && fraction.den < SHORT_END
 }

@@ -5,10 +5,10 @@ ghost use Rattle.game_model.specs.Game.{IsWithin, numbers, span};
 ghost use Rattle.scaled_num.specs.Sums.{sum_of, total};
 ghost use Rattle.std.specs.Bool.{IsTrue};
 ghost use Rattle.std.specs.List.{AllByRecursion};
-ghost use Rattle.std.specs.Prelude.{if◌then◌else◌, length, map, neg_ℤ, pos, slice_index_or, ℕ, ◌&&◌, ◌<◌, ◌==◌, ◌^◌, ◌↔◌, ◌≡◌, ◌≤◌};
+ghost use Rattle.std.specs.Prelude.{if◌then◌else◌, length, map, pos, slice_index_or, ℕ, ◌&&◌, ◌<◌, ◌==◌, ◌↔◌, ◌≡◌};
 
 use alpha_set::{Node, NodeSet, Step};
-use game_model::{Game, law_game};
+use game_model::Game;
 
 /// The total of every mix, and the greatest weight in one.
 const MIX_TOTAL: i128 = 65_536;
@@ -52,7 +52,9 @@ fn are_within(numbers: &[i128], low: i128, high: i128) -> bool
 fn is_mix(game: &Game, mix: &[i128]) -> bool
     ensures { IsTrue result ↔ IsMix game.now.shape.own_actions mix.now }
 {
-    mix.len() == game.own_actions() as usize && are_within(mix, 0, MIX_TOTAL) && sum(mix) == MIX_TOTAL
+    mix.len() == game.own_actions() as usize
+        && are_within(mix, 0, MIX_TOTAL)
+        && sum(mix) == MIX_TOTAL
 }
 
 /// The sum of the weights of a mix.
@@ -113,7 +115,8 @@ fn are_rising(next: &[Step]) -> bool
 fn is_before(step: &Step, other: &Step) -> bool
     ensures { IsTrue result ↔ IsBranchBefore (branch_of step.now) (branch_of other.now) }
 {
-    step.a < other.a || (step.a == other.a && (step.o < other.o || (step.o == other.o && step.k < other.k)))
+    step.a < other.a
+        || (step.a == other.a && (step.o < other.o || (step.o == other.o && step.k < other.k)))
 }
 
 /// Whether after each own action and observation the steps have the weight of that action.
@@ -159,5 +162,9 @@ fn weight_after(next: &[Step], a: u32, o: u32) -> i128
 fn weight_of(step: &Step, a: u32, o: u32) -> i128
     ensures { result ≡ (if (step.now.a == a) && (step.now.o == o) then step.now.weight else pos 0) }
 {
-    if step.a == a && step.o == o { step.weight } else { 0 }
+    if step.a == a && step.o == o {
+        step.weight
+    } else {
+        0
+    }
 }

@@ -101,5 +101,6 @@ fn are_rising(splits: &[Share]) -> bool
 fn is_before(share: &Share, other: &Share) -> bool
     ensures { IsTrue result ↔ IsBranchBefore (branch_of share.now) (branch_of other.now) }
 {
-    share.a < other.a || (share.a == other.a && (share.o < other.o || (share.o == other.o && share.k < other.k)))
+    share.a < other.a
+        || (share.a == other.a && (share.o < other.o || (share.o == other.o && share.k < other.k)))
 }

@@ -2,7 +2,6 @@
 use Rattle.std.proofs.Common.{◌≡◌, ℕ, suc, zero, ◌*◌, ◌^◌, [], ◌∷◌, refl}
 use Rattle.std.specs.Prelude.{pos, ◌-ℤ◌, ◌*ℤ◌}
 use Rattle.scaled_num.specs.Sums.{below, total}
-use Rattle.alpha_set.specs.Nodes.{NodeData}
 use Rattle.belief.specs.Mixes.{MixesData}
 use Rattle.controller.specs.Certificates.{CertificateData, Closed, FractionData, first_total}
 use Rattle.game_model.specs.Branches.{Branch, mix_total}
@@ -10,9 +9,7 @@ use Rattle.game_model.specs.Game.{GameData, first_at, numbers, span, unit}
 use Rattle.game_model.specs.Plan.{InformedPlan}
 use Rattle.game_model.specs.Play.{always, pay}
 use Rattle.game_model.specs.declared.parts.Landing.{Landing}
-use Rattle.game_model.specs.declared.parts.Shape.{Shape}
 use Rattle.history_model.specs.Halves.{common, hold, own}
-use Rattle.point_set.specs.Points.{PointData}
 
 abbrev branch : ℕ → ℕ → ℕ → ℕ → Branch
 branch a o k weight = record { own = a; seen = o; member = k; weight = pos weight }

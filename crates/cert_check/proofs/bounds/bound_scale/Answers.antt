@@ -1,8 +1,8 @@
-use Rattle.std.proofs.Common.{◌≡◌, ◌≤◌, ◌*◌, ◌∙◌, ◌^◌, ℕ, ap, arith}
-use Rattle.std.specs.Prelude.{ℤ, pos, unsigned_abs, FitsSigned, ◌*ℤ◌}
+use Rattle.std.proofs.Common.{◌≡◌, ◌≤◌, ◌*◌, ◌∙◌, ◌^◌, arith}
+use Rattle.std.specs.Prelude.{pos, FitsSigned}
 use Rattle.std.specs.Int.{w128}
 use Rattle.std.proofs.lemmas.Int.{fits_signed_from_abs, to_z-of_z}
-use Rattle.game_model.specs.Game.{GameData, unit}
+use Rattle.game_model.specs.Game.{GameData}
 use Rattle.controller.specs.Certificates.{first_total}
 use Rattle.cert_check.proofs.Gap.{first-total-is, first-total-within}
 use Rattle.cert_check.proofs.bounds.bound_scale.Goals as goal

@@ -1,5 +1,5 @@
-use Rattle.std.proofs.Common.{rules, sym, ◌∙◌, ◌≡◌}
-use Rattle.std.specs.Prelude.{FitsSigned, pos}
+use Rattle.std.proofs.Common.{rules, sym, ◌∙◌}
+use Rattle.std.specs.Prelude.{FitsSigned}
 use Rattle.std.specs.Int.{w128}
 use Rattle.std.proofs.lemmas.Int.{to_z-of_z}
 use Rattle.cert_check.proofs.bounds.bounds_are.Goals as goal
@@ -12,9 +12,11 @@ returns c =
     let span_fits : FitsSigned w128 c.span.result = search rules in
     let lower = simp to_z-of_z at (c.is_fraction.ensures.0 c.if-not-is_fraction.false) in
     let upper = simp to_z-of_z at (c.is_fraction-2.ensures.0 c.if-not-is_fraction-2.false) in
-    let tail = simp to_z-of_z at c.is_fraction-3.ensures in
-    (λ t. let last = tail.0 t in
-    ((lower.0 ∙ c.start_worth.ensures, lower.1 ∙ c.bound_scale-scale.ensures),
-    (upper.0 ∙ c.start_value.ensures, upper.1 ∙ c.bound_scale-scale.ensures),
-    (last.0 ∙ c.span.ensures, last.1)),
-    λ h. tail.1 (h.2.0 ∙ sym c.span.ensures, h.2.1))
+    let tail = simp to_z-of_z at c.is_fraction-3.ensures in (
+      λ t. let last = tail.0 t in (
+        (lower.0 ∙ c.start_worth.ensures, lower.1 ∙ c.bound_scale-scale.ensures),
+        (upper.0 ∙ c.start_value.ensures, upper.1 ∙ c.bound_scale-scale.ensures),
+        (last.0 ∙ c.span.ensures, last.1),
+      ),
+      λ h. tail.1 (h.2.0 ∙ sym c.span.ensures, h.2.1),
+    )

@@ -1,6 +1,5 @@
-use Rattle.std.proofs.Common.{◌≡◌, List, [], ◌∷◌, true}
-use Rattle.game_model.specs.Game.{GameData}
-use Rattle.controller.specs.Certificates.{BoundAt, CertificateData, Holds, OutcomeAt, StartAt}
+use Rattle.std.proofs.Common.{◌≡◌, [], ◌∷◌, true}
+use Rattle.controller.specs.Certificates.{BoundAt, Holds, OutcomeAt, StartAt}
 use Rattle.controller.specs.Data.{certificate_data}
 use Rattle.cert_check.proofs.First.{first-head, first-right}
 use Rattle.cert_check.proofs.bounds.first_end.Goals as goal

@@ -1,5 +1,5 @@
-use Rattle.std.proofs.Common.{◌≡◌, ◌≤◌, ◌*◌, ℕ, arith, subst, sym}
-use Rattle.std.specs.Prelude.{ℤ, pos, ◌-ℤ◌, ◌*ℤ◌, ◌≤ℤ◌}
+use Rattle.std.proofs.Common.{◌≤◌, ◌*◌, arith}
+use Rattle.std.specs.Prelude.{◌-ℤ◌, ◌*ℤ◌}
 use Rattle.std.proofs.lemmas.Int.{to_z-of_z}
 use Rattle.game_model.proofs.Width.{at_most}
 use Rattle.game_model.specs.Game.{GameData, unit}
@@ -38,6 +38,7 @@ returns c =
     let left = f.left_fits in
     let right = f.right_fits in
     let some : 1 ≤ first_total g * unit = omega (arith, (first-total-within g c.law_game.ensures.accepted).0) in
-    simp to_z-of_z
-    (λ t. gap-from k.upper.num k.lower.num k.gap.num k.gap.den k.upper.den k.lower.den (first_total g * unit) c.requires.bounds.1.1 c.requires.bounds.0.1 some ((at_most ((k.upper.num -ℤ k.lower.num) *ℤ k.gap.den) (k.gap.num *ℤ k.lower.den)).0 t),
-    λ h. (at_most ((k.upper.num -ℤ k.lower.num) *ℤ k.gap.den) (k.gap.num *ℤ k.lower.den)).1 (gap-to k.upper.num k.lower.num k.gap.num k.gap.den k.upper.den k.lower.den (first_total g * unit) c.requires.bounds.1.1 c.requires.bounds.0.1 some h))
+    simp to_z-of_z (
+      λ t. gap-from k.upper.num k.lower.num k.gap.num k.gap.den k.upper.den k.lower.den (first_total g * unit) c.requires.bounds.1.1 c.requires.bounds.0.1 some ((at_most ((k.upper.num -ℤ k.lower.num) *ℤ k.gap.den) (k.gap.num *ℤ k.lower.den)).0 t),
+      λ h. (at_most ((k.upper.num -ℤ k.lower.num) *ℤ k.gap.den) (k.gap.num *ℤ k.lower.den)).1 (gap-to k.upper.num k.lower.num k.gap.num k.gap.den k.upper.den k.lower.den (first_total g * unit) c.requires.bounds.1.1 c.requires.bounds.0.1 some h),
+    )

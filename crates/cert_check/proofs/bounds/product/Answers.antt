@@ -1,4 +1,4 @@
-use Rattle.std.proofs.Common.{◌≡◌, ◌<◌, ◌≤◌, ◌*◌, ◌^◌, ℕ, get_or, length, to_z, arith}
+use Rattle.std.proofs.Common.{◌≤◌, ◌^◌, get_or, to_z, arith}
 use Rattle.std.specs.Prelude.{ℤ, pos, unsigned_abs, FitsSigned, ◌*ℤ◌}
 use Rattle.std.specs.Int.{w128}
 use Rattle.std.proofs.lemmas.Int.{fits_signed_from_abs, ints, to_z-of_z, unsigned_abs-mul}
@@ -27,7 +27,7 @@ fits c =
       weight = fits_signed_from_abs w128 w (omega arith);
       entry = fits_signed_from_abs w128 x (omega arith);
       after = next (λ s. get_or c.args.weights.now s (pos 0) *ℤ get_or c.args.vector.now s (pos 0)) (2 ^ 86) c.loop-s.s (to_z w128 c.loop-s.sum-bits)
-      (rw (unsigned_abs-mul w x) (mul-le (unsigned_abs w) (unsigned_abs x) (2 ^ 20) (2 ^ 66) light small)) (omega arith) (omega arith) c.loop-s.invariant;
+          (rw (unsigned_abs-mul w x) (mul-le (unsigned_abs w) (unsigned_abs x) (2 ^ 20) (2 ^ 66) light small)) (omega arith) (omega arith) c.loop-s.invariant;
     }
 
 pub overflow_mul-sum : goal.overflow_mul-sum

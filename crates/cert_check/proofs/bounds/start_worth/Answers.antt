@@ -1,4 +1,4 @@
-use Rattle.std.proofs.Common.{◌≡◌, ◌≤◌, ◌∙◌, ◌^◌, ℕ, List, ap, length, rules, get_or, subst, sym}
+use Rattle.std.proofs.Common.{◌≡◌, ◌≤◌, ◌∙◌, ◌^◌, List, ap, length, rules, get_or, subst, sym}
 use Rattle.std.specs.Prelude.{ℤ, pos, unsigned_abs, FitsSigned, ◌*ℤ◌}
 use Rattle.std.specs.List.{AllByRecursion}
 use Rattle.std.specs.Int.{w128}
@@ -6,7 +6,7 @@ use Rattle.std.proofs.lemmas.Int.{to_z-of_z}
 use Rattle.scaled_num.specs.Sums.{below, total}
 use Rattle.game_model.specs.Game.{GameData}
 use Rattle.alpha_set.specs.Nodes.{NodeData, no_node}
-use Rattle.controller.specs.Certificates.{CertificateData, start_product}
+use Rattle.controller.specs.Certificates.{CertificateData}
 use Rattle.controller.specs.Data.{certificate_data}
 use Rattle.cert_check.proofs.Gap.{entries-small, start-is}
 use Rattle.cert_check.proofs.Fits.{node-in}

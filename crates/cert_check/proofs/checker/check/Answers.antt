@@ -1,12 +1,11 @@
 use Rattle.std.proofs.Common.{◌≡◌, ap, refl, subst, sym, ◌∙◌}
 use Rattle.game_model.specs.Game.{GameData}
-use Rattle.controller.specs.Certificates.{BoundAt, CertificateData, CertificateStands, CornerAt, FailsFirst, Holds, NodeAt, OutcomeAt, Place, SplitAt, StartAt, ValueAt, places}
+use Rattle.controller.specs.Certificates.{BoundAt, CertificateData, CornerAt, FailsFirst, Holds, NodeAt, OutcomeAt, Place, SplitAt, StartAt, ValueAt, places}
 use Rattle.controller.specs.Data.{certificate_data}
 use Rattle.cert_check.specs.Verdicts.{place_of}
 use Rattle.cert_check.specs.declared.verdicts.Reason.{Reason}
 use Rattle.cert_check.specs.declared.verdicts.Reason.TheVariants.{Bound, Corner, Node, Outcome, Split, Start, Value}
-use Rattle.cert_check.specs.declared.verdicts.Verdict.{Verdict}
-use Rattle.cert_check.specs.declared.verdicts.Verdict.TheVariants.{No, Yes}
+use Rattle.cert_check.specs.declared.verdicts.Verdict.TheVariants.{No}
 use Rattle.cert_check.proofs.First.{none-fails, once}
 use Rattle.cert_check.proofs.Order.{fails-first, first-in}
 use Rattle.cert_check.proofs.checker.check.Goals as goal
@@ -49,6 +48,7 @@ returns-in-Some-clause-yes c =
 pub returns-in-Some-clause-no : goal.returns-in-Some-clause-no
 returns-in-Some-clause-no c = λ reason.
     let g : GameData = c.args.game.now in
-    let k : CertificateData = certificate_data c.args.certificate.now in
-    (λ e. let same : c.in-Some.reason ≡ reason = cc in subst (λ (r : Reason). FailsFirst g k (place_of r)) same (fails-first g k (place_of c.in-Some.reason) c.in-Some.ensures.first),
-    λ f. ap No (same-reason c.in-Some.reason reason (once (Holds g k) (places g k) (place_of c.in-Some.reason) (place_of reason) c.in-Some.ensures.first (first-in g k (place_of reason) f))))
+    let k : CertificateData = certificate_data c.args.certificate.now in (
+      λ e. let same : c.in-Some.reason ≡ reason = cc in subst (λ (r : Reason). FailsFirst g k (place_of r)) same (fails-first g k (place_of c.in-Some.reason) c.in-Some.ensures.first),
+      λ f. ap No (same-reason c.in-Some.reason reason (once (Holds g k) (places g k) (place_of c.in-Some.reason) (place_of reason) c.in-Some.ensures.first (first-in g k (place_of reason) f))),
+    )

@@ -1,7 +1,5 @@
-use Rattle.std.proofs.Common.{◌≡◌, List, [], ◌∷◌, ◌++◌, flat_map, length, refl}
-use Rattle.std.specs.Prelude.{IfSome}
+use Rattle.std.proofs.Common.{List, [], ◌∷◌, ◌++◌, flat_map, length, refl}
 use Rattle.scaled_num.specs.Sums.{below}
-use Rattle.scaled_num.proofs.Sums.{each-append}
 use Rattle.game_model.specs.Game.{GameData}
 use Rattle.alpha_set.proofs.Rules.{if-some}
 use Rattle.controller.specs.Certificates.{BoundAt, CertificateData, Holds, OutcomeAt, Place, StartAt, node_places, point_places, places}

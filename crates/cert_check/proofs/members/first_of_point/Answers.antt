@@ -1,8 +1,8 @@
-use Rattle.std.proofs.Common.{◌≡◌, ℕ, ◌<◌, ◌++◌, arith, below_more, length, refl, true}
+use Rattle.std.proofs.Common.{◌≡◌, ◌<◌, ◌++◌, arith, refl, true}
 use Rattle.std.specs.List.{AllByRecursion}
 use Rattle.scaled_num.proofs.Sums.{each-append}
 use Rattle.game_model.specs.Game.{GameData}
-use Rattle.controller.specs.Certificates.{CertificateData, CornerAt, Holds, SplitAt, ValueAt, corner_places, split_places, value_places}
+use Rattle.controller.specs.Certificates.{CertificateData, CornerAt, Holds, corner_places, split_places, value_places}
 use Rattle.controller.specs.Data.{certificate_data}
 use Rattle.cert_check.proofs.First.{first-left, first-right}
 use Rattle.cert_check.proofs.Fits.{points-in-sets, shares-named}

@@ -8,7 +8,8 @@ use Rattle.alpha_set.specs.declared.nodes.Step.{Step}
 use Rattle.controller.proofs.nodes.are_in_range.Goals as goal
 
 pub returns : goal.returns
-returns c =
-    (λ t. each-by-place (λ (step : Step). IsBranch (numbers c.args.game.now) c.args.count (pos mix_total) (branch_of step)) (record { a = 0; o = 0; k = 0; weight = pos 0 }) c.args.next.now
-    (λ k l. c.loop-step.invariant k (omega arith)),
-    λ h. search rules)
+returns c = (
+  λ t. each-by-place (λ (step : Step). IsBranch (numbers c.args.game.now) c.args.count (pos mix_total) (branch_of step)) (record { a = 0; o = 0; k = 0; weight = pos 0 }) c.args.next.now
+      (λ k l. c.loop-step.invariant k (omega arith)),
+  λ h. search rules,
+)

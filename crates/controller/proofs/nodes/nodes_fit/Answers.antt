@@ -4,6 +4,7 @@ use Rattle.game_model.proofs.Front.{each-by-place}
 use Rattle.controller.proofs.nodes.nodes_fit.Goals as goal
 
 pub returns : goal.returns
-returns c =
-    (λ t. each-by-place (NodeFits c.args.game.now (length c.args.nodes.now)) no_node c.args.nodes.now (λ k l. c.loop-i.invariant k (omega (arith, c.len-i-end.ensures.count))),
-    λ h. search rules)
+returns c = (
+  λ t. each-by-place (NodeFits c.args.game.now (length c.args.nodes.now)) no_node c.args.nodes.now (λ k l. c.loop-i.invariant k (omega (arith, c.len-i-end.ensures.count))),
+  λ h. search rules,
+)

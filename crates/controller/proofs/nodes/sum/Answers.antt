@@ -1,8 +1,8 @@
-use Rattle.std.proofs.Common.{◌≤◌, arith, to_z}
+use Rattle.std.proofs.Common.{arith, to_z}
 use Rattle.std.specs.Prelude.{pos}
 use Rattle.std.specs.Int.{w128}
 use Rattle.std.proofs.lemmas.Int.{to_z-of_z}
-use Rattle.controller.proofs.Tests.{next}
+use Rattle.controller.proofs.Lists.{next}
 use Rattle.controller.proofs.nodes.sum.Goals as goal
 
 pub loop-weight-preserved : goal.loop-weight-preserved

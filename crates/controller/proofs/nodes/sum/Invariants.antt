@@ -1,4 +1,4 @@
-use Rattle.controller.proofs.Tests.{SoFar}
+use Rattle.controller.proofs.Lists.{SoFar}
 use Rattle.controller.proofs.nodes.sum.Given as goal
 
 abbrev pub invariant-loop-weight : goal.invariant-loop-weight

@@ -1,12 +1,12 @@
-use Rattle.std.proofs.Common.{◌≡◌, ◌≤◌, ◌∙◌, ap, arith, get_or, length, sym, subst, take, to_z}
-use Rattle.std.specs.Prelude.{ℤ, pos, FitsSigned}
+use Rattle.std.proofs.Common.{◌∙◌, ap, arith, to_z}
+use Rattle.std.specs.Prelude.{pos}
 use Rattle.std.specs.Int.{w128}
 use Rattle.std.proofs.lemmas.Int.{to_z-of_z}
 use Rattle.std.proofs.lemmas.List.{take_all}
 use Rattle.scaled_num.specs.Sums.{total}
 use Rattle.alpha_set.specs.Members.{branch_of}
 use Rattle.alpha_set.specs.declared.nodes.Step.{Step}
-use Rattle.controller.proofs.Tests.{Next, next, weight_at, weights-at, weights-within}
+use Rattle.controller.proofs.Lists.{Next, next, weight_at, weights-at, weights-within}
 use Rattle.controller.proofs.nodes.weight_after.Goals as goal
 
 abbrev none : Step

@@ -1,5 +1,5 @@
 use Rattle.alpha_set.specs.Members.{branch_of}
-use Rattle.controller.proofs.Tests.{SoFar, weight_at}
+use Rattle.controller.proofs.Lists.{SoFar, weight_at}
 use Rattle.controller.proofs.nodes.weight_after.Given as goal
 
 abbrev pub invariant-loop-step : goal.invariant-loop-step

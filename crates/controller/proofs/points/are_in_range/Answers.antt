@@ -9,7 +9,8 @@ use Rattle.point_set.specs.declared.points.Share.{Share}
 use Rattle.controller.proofs.points.are_in_range.Goals as goal
 
 pub returns : goal.returns
-returns c =
-    (λ t. each-by-place (λ (share : Share). IsBranch (numbers c.args.game.now) c.args.count most_share (branch_of share)) (record { a = 0; o = 0; k = 0; weight = pos 0 }) c.args.splits.now
-    (λ k l. c.loop-share.invariant k (omega arith)),
-    λ h. search rules)
+returns c = (
+  λ t. each-by-place (λ (share : Share). IsBranch (numbers c.args.game.now) c.args.count most_share (branch_of share)) (record { a = 0; o = 0; k = 0; weight = pos 0 }) c.args.splits.now
+      (λ k l. c.loop-share.invariant k (omega arith)),
+  λ h. search rules,
+)

@@ -11,6 +11,7 @@ loop-j-preserved c =
     (subst (λ (n : ℕ). PointFits c.args.game.now n (get_or c.args.points.now c.loop-j.j no_point)) c.len.ensures.count found)
 
 pub returns : goal.returns
-returns c =
-    (λ t. each-by-place (PointFits c.args.game.now (length c.args.points.now)) no_point c.args.points.now (λ k l. c.loop-j.invariant k (omega (arith, c.len-j-end.ensures.count))),
-    λ h. search rules)
+returns c = (
+  λ t. each-by-place (PointFits c.args.game.now (length c.args.points.now)) no_point c.args.points.now (λ k l. c.loop-j.invariant k (omega (arith, c.len-j-end.ensures.count))),
+  λ h. search rules,
+)

@@ -1,12 +1,10 @@
 -- Tests of lists: entries in range, branches that rise, and sums of weights.
-use Rattle.std.proofs.Common.{◌≡◌, ℕ, zero, suc, ◌+◌, ◌-◌, ◌*◌, ◌^◌, ◌<◌, ◌≤◌, Bool, true, false, cond, ◌&&◌, ◌==◌, List, [], ◌∷◌, length, map, get_or, take, filter, refl, ap, arith, sym, subst, ◌∙◌}
-use Rattle.std.specs.Prelude.{ℤ, pos, neg_ℤ, ◌+ℤ◌, ◌-ℤ◌, ◌*ℤ◌, ◌≤ℤ◌, unsigned_abs, FitsSigned}
+use Rattle.std.proofs.Common.{◌≡◌, ℕ, zero, suc, ◌+◌, ◌-◌, ◌*◌, ◌^◌, ◌<◌, ◌≤◌, Bool, true, false, cond, ◌&&◌, ◌==◌, List, [], ◌∷◌, length, map, get_or, take, refl, ap, arith, sym, subst, ◌∙◌}
+use Rattle.std.specs.Prelude.{ℤ, pos, neg_ℤ, ◌+ℤ◌, ◌-ℤ◌, ◌≤ℤ◌, FitsSigned}
 use Rattle.std.specs.List.{AllByRecursion}
 use Rattle.std.specs.Int.{w128}
-use Rattle.std.proofs.Math.Nat.{mul-le-mul_left, mul-le-mul_right}
-use Rattle.std.proofs.lemmas.Int.{ints, fits_signed_from_abs, unsigned_abs-mul}
-use Rattle.std.proofs.lemmas.Nat.{mul-le}
-use Rattle.scaled_num.specs.Sums.{sum_of, total}
+use Rattle.std.proofs.lemmas.Int.{ints, fits_signed_from_abs}
+use Rattle.scaled_num.specs.Sums.{total}
 use Rattle.scaled_num.proofs.Sums.{each-at}
 use Rattle.game_model.specs.Branches.{AreRising, Branch, IsBranchBefore, branches_at}
 use Rattle.game_model.specs.Game.{IsWithin}
@@ -93,9 +91,10 @@ weights-at f a o (x ∷ xs) =
 
 pub weights-within : {X : Type 0} (f : X → Branch) (a o : ℕ) (xs : List X) → AllByRecursion (λ (b : Branch). IsWithin (pos 1) (pos 65536) b.weight) (map f xs) → AllByRecursion (λ x. IsWithin (pos 0) (pos 65536) (weight_at f a o x)) xs
 weights-within f a o [] h = tt
-weights-within f a o (x ∷ xs) h =
-    (elim (((f x).own == a) && ((f x).seen == o)) as (λ (b : Bool). IsWithin (pos 0) (pos 65536) (cond b (f x).weight (pos 0))) [ true ↦ lower (f x).weight h.0 | false ↦ (omega (arith, ints), omega (arith, ints)) ],
-    weights-within f a o xs h.1)
+weights-within f a o (x ∷ xs) h = (
+  elim (((f x).own == a) && ((f x).seen == o)) as (λ (b : Bool). IsWithin (pos 0) (pos 65536) (cond b (f x).weight (pos 0))) [ true ↦ lower (f x).weight h.0 | false ↦ (omega (arith, ints), omega (arith, ints)) ],
+  weights-within f a o xs h.1,
+)
   where
     lower : (x : ℤ) → IsWithin (pos 1) (pos 65536) x → IsWithin (pos 0) (pos 65536) x
     lower x w = let low = w.0 in (omega (arith, ints), w.1)
