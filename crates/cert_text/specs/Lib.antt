@@ -1,1 +1,10 @@
 pub mod Text
+pub mod Fault
+pub mod Forms
+pub mod Entries
+pub mod View
+pub mod Reading
+pub mod Made
+pub mod Answers
+pub mod Laws
+pub mod Draft

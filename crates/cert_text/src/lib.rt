@@ -1,1 +1,19 @@
+//! The text of a certificate, and its reader.
 #![tactic(auto)]
+
+mod draft;
+mod fault;
+mod forms;
+mod guards;
+mod head;
+mod laws;
+mod members;
+mod place;
+mod reader;
+#[cfg(test)]
+mod tests;
+mod texts;
+
+pub use fault::{CertFault, CertKind};
+pub use laws::{law_accepted, law_not_refused, law_one, law_read, law_refused_once};
+pub use texts::read;

@@ -1,0 +1,51 @@
+-- A certificate in the making as data.
+use Rattle.std.specs.Prelude.{◌≡◌, map}
+use Rattle.belief.specs.Mixes.{AreMixes}
+use Rattle.game_model.specs.Game.{AreCoprime, GameData, IsBelief}
+use Rattle.game_model.specs.Branches.{Branch as BranchData}
+use Rattle.alpha_set.specs.Members.{node_data}
+use Rattle.alpha_set.specs.declared.nodes.Step.{Step}
+use Rattle.point_set.specs.Members.{branch_of}
+use Rattle.point_set.specs.Points.{PointData}
+use Rattle.point_set.specs.declared.points.Share.{Share}
+use Rattle.controller.specs.Certificates.{CertificateData}
+use Rattle.controller.specs.Data.{ending_of}
+use Rattle.cert_text.specs.declared.place.Branch.{Branch}
+use Rattle.cert_text.specs.declared.draft.Draft.{Draft}
+use Rattle.cert_text.specs.declared.draft.Spot.{Spot}
+use Rattle.cert_text.specs.View.{fraction_is}
+
+abbrev pub step_of : Branch → Step
+step_of b = record { a = b.own; o = b.seen; k = b.member; weight = b.weight }
+
+abbrev pub share_of : Branch → Share
+share_of b = record { a = b.own; o = b.seen; k = b.member; weight = b.weight }
+
+abbrev pub spot_data : Spot → PointData
+spot_data p = record {
+  belief = p.belief.items;
+  value = p.value;
+  mixes = record { states = p.states; actions = p.actions; weights = p.weights.items };
+  splits = map branch_of p.splits.items;
+}
+
+abbrev pub draft_data : Draft → CertificateData
+draft_data d = record {
+  lower = fraction_is d.lower;
+  upper = fraction_is d.upper;
+  tail = fraction_is d.tail;
+  gap = fraction_is d.gap;
+  outcome = ending_of d.outcome;
+  nodes = map node_data d.nodes.items;
+  points = map spot_data d.points.items;
+  start_node = d.start_node;
+  start_point = d.start_point;
+}
+
+-- a point in the making that makes a point of the game
+pub record AreFit (g : GameData) (p : PointData) : Type 0 where
+  pub belief : IsBelief g.shape.states p.belief
+  pub coprime : AreCoprime p.belief
+  pub states : p.mixes.states ≡ g.shape.states
+  pub actions : p.mixes.actions ≡ g.shape.informed_actions
+  pub mixes : AreMixes p.mixes

@@ -1,0 +1,131 @@
+ghost use Rattle.std.specs.Prelude.{◌≡◌, ◌≤◌, ◌<◌, ◌^◌, ◌==◌, length, map, IfOk, OnOk, All, pos, ◌≤ℤ◌};
+
+ghost use Rattle.std.specs.List.{slice_split};
+ghost use Rattle.cert_text.specs.Fault.{Gives, seen};
+ghost use Rattle.controller.specs.Data.{ending_of};
+ghost use Rattle.cert_text.specs.View.{fraction_is};
+ghost use Rattle.cert_text.specs.Forms.{are_words, begins, version_line, numbers_after, numbers_said, word_after, outcome_of, fraction_of, fraction_from};
+
+use crate::fault::{CertKind, LineFault};
+use controller::Outcome;
+use std::alloc::{AllocError, Global};
+
+/// The numbers of words that are all number words.
+fn numbers(alloc: Global, words: &[&[u8]]) -> Result<Vec<i128>, LineFault>
+    ensures gives { Gives (λ numbers. numbers.items) result (numbers_said (map (λ word. word.now) words.now)) }
+    ensures count { IfOk result (λ numbers. length numbers.items ≡ length words.now) }
+{
+    let mut numbers = Vec::new(alloc);
+    for word in words {
+        let number = text_words::number(word).ok_or(CertKind::Number)?;
+        numbers.push(number)?;
+    }
+    Ok(numbers)
+}
+
+/// The numbers of a line that has this first word and this many numbers.
+#[tactic(auto, unfolding(crate::specs::Forms::numbers_after))]
+pub fn numbers_after(
+    alloc: Global,
+    words: &[&[u8]],
+    name: &[u8],
+    count: usize,
+) -> Result<Vec<i128>, LineFault>
+    ensures gives { Gives (λ numbers. numbers.items) result (numbers_after name.now count (map (λ word. word.now) words.now)) }
+    ensures count { IfOk result (λ numbers. length numbers.items ≡ count) }
+{
+    match words {
+        [first, rest @ ..] if *first == name && rest.len() == count => numbers(alloc, rest),
+        _ => Err(CertKind::Shape.into()),
+    }
+}
+
+/// The one word after this first word.
+#[tactic(auto, unfolding(crate::specs::Forms::word_after))]
+pub fn word_after<'a>(words: &[&'a [u8]], name: &[u8]) -> Result<&'a [u8], CertKind>
+    ensures { seen (λ word. word.now) result ≡ word_after name.now (map (λ word. word.now) words.now) }
+{
+    match words {
+        [first, word] if *first == name => Ok(*word),
+        _ => Err(CertKind::Shape),
+    }
+}
+
+/// Whether the line begins with this word.
+pub fn begins(name: &[u8], words: &[&[u8]]) -> bool
+    ensures { result ≡ begins name.now (map (λ word. word.now) words.now) }
+{
+    match words {
+        [first, ..] => *first == name,
+        [] => false,
+    }
+}
+
+/// Whether the line is these two words.
+#[tactic(auto, unfolding(crate::specs::Forms::are_words))]
+fn are_words(name: &[u8], second: &[u8], words: &[&[u8]]) -> bool
+    ensures { result ≡ are_words name.now second.now (map (λ word. word.now) words.now) }
+{
+    match words {
+        [first, word] => *first == name && *word == second,
+        _ => false,
+    }
+}
+
+/// The line is `certificate 1`.
+#[tactic(auto, unfolding(crate::specs::Forms::version_line))]
+pub fn version(words: &[&[u8]]) -> Result<(), CertKind>
+    ensures { result ≡ version_line (map (λ word. word.now) words.now) }
+{
+    if !are_words(b"certificate", b"1", words) {
+        return Err(CertKind::Version);
+    }
+    Ok(())
+}
+
+/// The outcome that a word says.
+#[tactic(auto, unfolding(crate::specs::Forms::outcome_of))]
+pub fn outcome_of(word: &[u8]) -> Result<Outcome, CertKind>
+    ensures { seen ending_of result ≡ outcome_of word.now }
+{
+    if word == b"closed".as_slice() {
+        Ok(Outcome::Closed)
+    } else if word == b"trials".as_slice() {
+        Ok(Outcome::Trials)
+    } else if word == b"full".as_slice() {
+        Ok(Outcome::Full)
+    } else {
+        Err(CertKind::Shape)
+    }
+}
+
+/// The numerator and the denominator that two words say.
+#[tactic(auto, unfolding(crate::specs::Forms::fraction_from))]
+fn fraction_from(pieces: &[&[u8]]) -> Result<(i128, i128), CertKind>
+    ensures { seen fraction_is result ≡ fraction_from (map (λ word. word.now) pieces.now) }
+{
+    match pieces {
+        [num, den] => {
+            let over = text_words::number(num).ok_or(CertKind::Number)?;
+            let under = text_words::number(den).ok_or(CertKind::Number)?;
+            Ok((over, under))
+        }
+        _ => Err(CertKind::Number),
+    }
+}
+
+/// The pieces of a word around each `/`.
+fn pieces(alloc: Global, word: &[u8]) -> Result<Vec<&[u8]>, AllocError>
+    ensures { IfOk result (λ pieces. map (λ piece. piece.now) pieces.items ≡ slice_split (λ b. b == 47) word.now) }
+{
+    word.split(|b| *b == b'/').collect(alloc)
+}
+
+/// The numerator and the denominator that a fraction word says.
+#[tactic(auto, unfolding(crate::specs::Forms::fraction_of))]
+pub fn fraction_of(alloc: Global, word: &[u8]) -> Result<(i128, i128), LineFault>
+    ensures { Gives fraction_is result (fraction_of word.now) }
+{
+    let pieces = pieces(alloc, word)?;
+    Ok(fraction_from(&pieces)?)
+}

@@ -1,0 +1,199 @@
+ghost use Rattle.std.specs.Prelude.{◌≡◌, ◌≤◌, ◌<◌, ◌^◌, length, drop, IfOk, OnOk, All, pos, ◌≤ℤ◌};
+ghost use Rattle.scaled_num.specs.Sums.{sum_of};
+ghost use Rattle.cert_text.specs.Forms.{is_within, limited, below_limit, at_least, each_within, is_due, member_below, few, is_after, later_branch, sums_to_mix, common_divisor, belief_total, none_lacks, fits_lack};
+
+use crate::fault::CertKind;
+use crate::place::Latest;
+use scaled_num::gcd;
+
+/// The total of every mix.
+pub const MIX_TOTAL: i128 = 65_536;
+
+/// The greatest total of a belief, and the greatest weight in one.
+pub const MOST_BELIEF: i128 = 1 << 20;
+
+/// The most nodes, and the most points.
+const MOST_MEMBERS: i128 = 1024;
+
+fn is_within(low: i128, high: i128, number: i128) -> bool
+    ensures { result ≡ is_within low high number }
+{
+    low <= number && number <= high
+}
+
+/// A number in its limits.
+#[tactic(auto, unfolding(crate::specs::Forms::limited))]
+pub fn limited(low: i128, high: i128, number: i128) -> Result<i128, CertKind>
+    ensures value { result ≡ limited low high number }
+    ensures least { IfOk result (λ n. low ≤ℤ n) }
+    ensures most { IfOk result (λ n. n ≤ℤ high) }
+{
+    if !is_within(low, high, number) {
+        return Err(CertKind::Range);
+    }
+    Ok(number)
+}
+
+/// A number below a limit.
+#[tactic(auto, unfolding(crate::specs::Forms::below_limit))]
+pub fn below_limit(limit: u32, number: i128) -> Result<u32, CertKind>
+    ensures value { result ≡ below_limit limit number }
+    ensures less { IfOk result (λ n. n < limit) }
+{
+    if number < 0 || number >= i128::from(limit) {
+        return Err(CertKind::Range);
+    }
+    Ok(number as u32)
+}
+
+/// A number with a least value.
+#[tactic(auto, unfolding(crate::specs::Forms::at_least))]
+pub fn at_least(low: i128, number: i128) -> Result<i128, CertKind>
+    ensures value { result ≡ at_least low number }
+    ensures least { IfOk result (λ n. low ≤ℤ n) }
+{
+    if number < low {
+        return Err(CertKind::Range);
+    }
+    Ok(number)
+}
+
+/// Each number is in its limits.
+#[tactic(auto, unfolding(crate::specs::Forms::each_within))]
+pub fn each_within(low: i128, high: i128, numbers: &[i128]) -> Result<(), CertKind>
+    ensures kind { result ≡ each_within low high numbers.now }
+    ensures small { OnOk result (All (λ n. (low ≤ℤ n) × (n ≤ℤ high)) numbers.now) }
+{
+    if !numbers.iter().all(|number| is_within(low, high, *number)) {
+        return Err(CertKind::Range);
+    }
+    Ok(())
+}
+
+/// The number of the member or state that is due.
+#[tactic(auto, unfolding(crate::specs::Forms::is_due))]
+pub fn is_due(due: u32, number: i128) -> Result<(), CertKind>
+    ensures { result ≡ is_due due number }
+{
+    if !is_within(i128::from(due), i128::from(due), number) {
+        return Err(CertKind::Order);
+    }
+    Ok(())
+}
+
+/// One of so many members.
+#[tactic(auto, unfolding(crate::specs::Forms::member_below))]
+pub fn member_below(members: u32, number: i128) -> Result<u32, CertKind>
+    requires { pos 0 ≤ℤ number }
+    ensures { result ≡ member_below members number }
+{
+    if number >= i128::from(members) {
+        return Err(CertKind::Index);
+    }
+    Ok(number as u32)
+}
+
+/// At most 1,024 members.
+#[tactic(auto, unfolding(crate::specs::Forms::few))]
+pub fn few(number: i128) -> Result<u32, CertKind>
+    requires { pos 0 ≤ℤ number }
+    ensures kind { result ≡ few number }
+    ensures most { IfOk result (λ n. n ≤ 1024) }
+{
+    if number > MOST_MEMBERS {
+        return Err(CertKind::Full);
+    }
+    Ok(number as u32)
+}
+
+/// Whether a branch is greater than another one.
+fn is_after(a: u32, o: u32, k: u32, own: u32, seen: u32, member: i128) -> bool
+    ensures { result ≡ is_after a o k own seen member }
+{
+    a < own || (a == own && (o < seen || (o == seen && i128::from(k) < member)))
+}
+
+/// The branch is greater than that of the line just before, where that has one.
+#[tactic(auto, unfolding(crate::specs::Forms::later_branch))]
+pub fn later_branch(latest: Latest, own: u32, seen: u32, member: i128) -> Result<(), CertKind>
+    ensures { result ≡ later_branch latest own seen member }
+{
+    match latest {
+        Latest::Next(a, o, k) if !is_after(a, o, k, own, seen, member) => Err(CertKind::Order),
+        Latest::Split(a, o, k) if !is_after(a, o, k, own, seen, member) => Err(CertKind::Order),
+        _ => Ok(()),
+    }
+}
+
+/// The sum of small numbers.
+pub fn sum(numbers: &[i128]) -> i128
+    requires few { length numbers.now ≤ 16 }
+    requires small { All (λ n. (pos 0 ≤ℤ n) × (n ≤ℤ pos 1048576)) numbers.now }
+    ensures { result ≡ sum_of numbers.now }
+{
+    let mut sum = 0;
+    for number in numbers {
+        sum += *number;
+    }
+    sum
+}
+
+/// The weights of a mix sum to the mix total.
+#[tactic(auto, unfolding(crate::specs::Forms::sums_to_mix))]
+pub fn sums_to_mix(weights: &[i128]) -> Result<(), CertKind>
+    requires few { length weights.now ≤ 16 }
+    requires small { All (λ n. (pos 0 ≤ℤ n) × (n ≤ℤ pos 65536)) weights.now }
+    ensures { result ≡ sums_to_mix weights.now }
+{
+    if !is_within(MIX_TOTAL, MIX_TOTAL, sum(weights)) {
+        return Err(CertKind::Total);
+    }
+    Ok(())
+}
+
+/// The greatest common divisor of numbers.
+fn common_divisor(numbers: &[i128]) -> u128
+    ensures { result ≡ common_divisor numbers.now }
+{
+    let mut divisor = 0;
+    for number in numbers {
+        divisor = gcd(divisor, number.unsigned_abs());
+    }
+    divisor
+}
+
+/// The parts of a belief have a total in its limits and are coprime.
+#[tactic(auto, unfolding(crate::specs::Forms::belief_total))]
+pub fn belief_total(parts: &[i128]) -> Result<(), CertKind>
+    requires few { length parts.now ≤ 16 }
+    requires small { All (λ n. (pos 0 ≤ℤ n) × (n ≤ℤ pos 1048576)) parts.now }
+    ensures { result ≡ belief_total parts.now }
+{
+    if !is_within(1, MOST_BELIEF, sum(parts)) || common_divisor(parts) != 1 {
+        return Err(CertKind::Total);
+    }
+    Ok(())
+}
+
+/// No place lacks anything.
+#[tactic(auto, unfolding(crate::specs::Forms::none_lacks))]
+pub fn none_lacks(lacking: &[i128]) -> Result<(), CertKind>
+    ensures { result ≡ none_lacks lacking.now }
+{
+    if !lacking.iter().all(|lack| is_within(0, 0, *lack)) {
+        return Err(CertKind::Total);
+    }
+    Ok(())
+}
+
+/// A weight is at most what its place lacks.
+#[tactic(auto, unfolding(crate::specs::Forms::fits_lack))]
+pub fn fits_lack(lack: i128, weight: i128) -> Result<(), CertKind>
+    ensures kind { result ≡ fits_lack lack weight }
+    ensures fits { OnOk result (weight ≤ℤ lack) }
+{
+    if weight > lack {
+        return Err(CertKind::Total);
+    }
+    Ok(())
+}

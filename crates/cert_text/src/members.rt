@@ -1,0 +1,161 @@
+ghost use Rattle.std.specs.Prelude.{◌≡◌, ◌≤◌, ◌<◌, length, map, drop, IfOk, pos, ◌≤ℤ◌, ◌*ℤ◌, neg_ℤ, All};
+ghost use Rattle.game_model.specs.Branches.{mix_total};
+ghost use Rattle.point_set.specs.Points.{most_share};
+ghost use Rattle.cert_text.specs.Fault.{Gives};
+ghost use Rattle.cert_text.specs.View.{entry_in, branch_of, AreLimits, IsPlace};
+ghost use Rattle.cert_text.specs.Entries.{node_said, vector_said, mix_said, branch_said, next_said, point_said, belief_said, value_within, value_said, mixes_said, split_said};
+
+use crate::fault::{CertKind, LineFault};
+use crate::forms::numbers_after;
+use crate::guards::{
+    MIX_TOTAL, MOST_BELIEF, at_least, belief_total, below_limit, each_within, fits_lack, is_due,
+    later_branch, limited, member_below, none_lacks, sums_to_mix,
+};
+use crate::place::{Branch, Entry, Limits, Place};
+use std::alloc::Global;
+
+/// The greatest weight of a share.
+const MOST_SHARE: i128 = 1 << 66;
+
+/// The node of this number, where no place of the node before lacks anything.
+#[tactic(auto, unfolding(crate::specs::Entries::node_said))]
+pub fn node_line(alloc: Global, number: u32, lacking: &[i128], words: &[&[u8]]) -> Result<Entry, LineFault>
+    ensures { Gives entry_in result (node_said number lacking.now (map (λ word. word.now) words.now)) }
+{
+    let numbers = numbers_after(alloc, words, b"node", 1)?;
+    is_due(number, numbers[0])?;
+    none_lacks(lacking)?;
+    Ok(Entry::Node(number))
+}
+
+#[tactic(auto, unfolding(crate::specs::Entries::vector_said))]
+pub fn vector_line(alloc: Global, limits: &Limits, words: &[&[u8]]) -> Result<Entry, LineFault>
+    requires { AreLimits limits.now }
+    ensures { Gives entry_in result (vector_said limits.now (map (λ word. word.now) words.now)) }
+{
+    let entries = numbers_after(alloc, words, b"vector", limits.states as usize)?;
+    each_within(-limits.span, limits.span, &entries)?;
+    Ok(Entry::Vector(entries))
+}
+
+#[tactic(auto, unfolding(crate::specs::Entries::mix_said))]
+pub fn mix_line(alloc: Global, limits: &Limits, words: &[&[u8]]) -> Result<Entry, LineFault>
+    requires { AreLimits limits.now }
+    ensures { Gives entry_in result (mix_said limits.now (map (λ word. word.now) words.now)) }
+{
+    let weights = numbers_after(alloc, words, b"mix", limits.own_actions as usize)?;
+    each_within(0, MIX_TOTAL, &weights)?;
+    sums_to_mix(&weights)?;
+    Ok(Entry::Mix(weights))
+}
+
+/// A branch to one of so many members, with a weight of 1 to the most.
+#[tactic(auto, unfolding(crate::specs::Entries::branch_said))]
+fn branch(alloc: Global, name: &[u8], most: i128, members: u32, place: &Place, words: &[&[u8]]) -> Result<Branch, LineFault>
+    ensures gives { Gives branch_of result (branch_said name.now most members place.now (map (λ word. word.now) words.now)) }
+    ensures own { IfOk result (λ b. b.own < place.now.limits.own_actions) }
+    ensures seen { IfOk result (λ b. b.seen < place.now.limits.observations) }
+{
+    let numbers = numbers_after(alloc, words, name, 4)?;
+    let own = below_limit(place.limits.own_actions, numbers[0])?;
+    let seen = below_limit(place.limits.observations, numbers[1])?;
+    let number = at_least(0, numbers[2])?;
+    let weight = limited(1, most, numbers[3])?;
+    later_branch(place.latest, own, seen, number)?;
+    let member = member_below(members, number)?;
+    Ok(Branch { own, seen, member, weight })
+}
+
+/// A step: no earlier place lacks anything, and this one lacks its weight.
+#[tactic(auto, unfolding(crate::specs::Entries::next_said))]
+pub fn next_line(alloc: Global, place: &Place, words: &[&[u8]]) -> Result<Entry, LineFault>
+    requires { IsPlace place.now }
+    ensures { Gives entry_in result (next_said place.now (map (λ word. word.now) words.now)) }
+{
+    let b = branch(alloc, b"next", MIX_TOTAL, place.nodes, place, words)?;
+    let i = (b.own * place.limits.observations + b.seen) as usize;
+    none_lacks(&place.lacking[..i])?;
+    fits_lack(place.lacking[i], b.weight)?;
+    Ok(Entry::Next(b))
+}
+
+/// The point of this number, where no place of the last node lacks anything.
+#[tactic(auto, unfolding(crate::specs::Entries::point_said))]
+pub fn point_line(alloc: Global, number: u32, lacking: &[i128], words: &[&[u8]]) -> Result<Entry, LineFault>
+    ensures { Gives entry_in result (point_said number lacking.now (map (λ word. word.now) words.now)) }
+{
+    let numbers = numbers_after(alloc, words, b"point", 1)?;
+    is_due(number, numbers[0])?;
+    none_lacks(lacking)?;
+    Ok(Entry::Point(number))
+}
+
+#[tactic(auto, unfolding(crate::specs::Entries::belief_said))]
+pub fn belief_line(alloc: Global, limits: &Limits, words: &[&[u8]]) -> Result<Entry, LineFault>
+    requires { AreLimits limits.now }
+    ensures { Gives entry_in result (belief_said limits.now (map (λ word. word.now) words.now)) }
+{
+    let parts = numbers_after(alloc, words, b"belief", limits.states as usize)?;
+    each_within(0, MOST_BELIEF, &parts)?;
+    belief_total(&parts)?;
+    Ok(Entry::Belief(parts))
+}
+
+/// The greatest value of a point: the span times the belief's total.
+fn most_value(place: &Place) -> i128
+    requires { IsPlace place.now }
+    ensures value { result ≡ place.now.limits.span *ℤ place.now.total }
+    ensures low { pos 0 ≤ℤ result }
+{
+    place.limits.span * place.total
+}
+
+/// The least value of a point.
+fn least_value(place: &Place) -> i128
+    requires { IsPlace place.now }
+    ensures { result ≡ neg_ℤ (place.now.limits.span *ℤ place.now.total) }
+{
+    -most_value(place)
+}
+
+/// The value, where it is within the span times the belief's total.
+#[tactic(auto, unfolding(crate::specs::Entries::value_within))]
+fn value_within(place: &Place, value: i128) -> Result<i128, CertKind>
+    requires { IsPlace place.now }
+    ensures { result ≡ value_within place.now.limits.span place.now.total value }
+{
+    limited(least_value(place), most_value(place), value)
+}
+
+/// A value within the span times the belief's total.
+#[tactic(auto, unfolding(crate::specs::Entries::value_said))]
+pub fn value_line(alloc: Global, place: &Place, words: &[&[u8]]) -> Result<Entry, LineFault>
+    requires { IsPlace place.now }
+    ensures { Gives entry_in result (value_said place.now.limits place.now.total (map (λ word. word.now) words.now)) }
+{
+    let numbers = numbers_after(alloc, words, b"value", 1)?;
+    let value = value_within(place, numbers[0])?;
+    Ok(Entry::Value(value))
+}
+
+/// The mix of the state that is due.
+#[tactic(auto, unfolding(crate::specs::Entries::mixes_said))]
+pub fn mixes_line(alloc: Global, limits: &Limits, state: u32, words: &[&[u8]]) -> Result<Entry, LineFault>
+    requires { AreLimits limits.now }
+    ensures { Gives entry_in result (mixes_said limits.now state (map (λ word. word.now) words.now)) }
+{
+    let numbers = numbers_after(alloc, words, b"mix", limits.informed_actions as usize + 1)?;
+    let weights = &numbers[1..];
+    each_within(0, MIX_TOTAL, weights)?;
+    is_due(state, numbers[0])?;
+    sums_to_mix(weights)?;
+    Ok(Entry::Mixes(state, Vec::from_slice(alloc, weights)?))
+}
+
+#[tactic(auto, unfolding(crate::specs::Entries::split_said))]
+pub fn split_line(alloc: Global, place: &Place, words: &[&[u8]]) -> Result<Entry, LineFault>
+    ensures { Gives entry_in result (split_said place.now (map (λ word. word.now) words.now)) }
+{
+    let b = branch(alloc, b"split", MOST_SHARE, place.points, place, words)?;
+    Ok(Entry::Split(b))
+}
