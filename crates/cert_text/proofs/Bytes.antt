@@ -37,10 +37,10 @@ numbered_behind {X} f ys (x ∷ xs) d =
     let e : (ys ++ x ∷ []) ++ xs ≡ ys ++ x ∷ xs = append_assoc ys (x ∷ []) xs in
     let l : length (ys ++ x ∷ []) ≡ length ys + 1 = length_push ys x in
     let r : flat_map (λ i. f i (get_or (ys ++ x ∷ xs) i d)) (range_with_len (length ys + 1) (length xs)) ≡ numbered f (length ys + 1) xs =
-        ap (λ (n : ℕ). flat_map (λ i. f i (get_or (ys ++ x ∷ xs) i d)) (range_with_len n (length xs))) (sym l)
-        ∙ ap (λ (zs : List X). flat_map (λ i. f i (get_or zs i d)) (range_with_len (length (ys ++ x ∷ [])) (length xs))) (sym e)
-        ∙ numbered_behind f (ys ++ x ∷ []) xs d
-        ∙ ap (λ (n : ℕ). numbered f n xs) l in
+    ap (λ (n : ℕ). flat_map (λ i. f i (get_or (ys ++ x ∷ xs) i d)) (range_with_len n (length xs))) (sym l)
+    ∙ ap (λ (zs : List X). flat_map (λ i. f i (get_or zs i d)) (range_with_len (length (ys ++ x ∷ [])) (length xs))) (sym e)
+    ∙ numbered_behind f (ys ++ x ∷ []) xs d
+    ∙ ap (λ (n : ℕ). numbered f n xs) l in
     ap (λ (z : X). f (length ys) z ++ flat_map (λ i. f i (get_or (ys ++ x ∷ xs) i d)) (range_with_len (length ys + 1) (length xs))) at ∙ ap (λ (z : List ℕ). f (length ys) x ++ z) r
 
 pub numbered_all : {X : Type 0} (f : ℕ → X → List ℕ) (xs : List X) (d : X) → flat_map (λ i. f i (get_or xs i d)) (below (length xs)) ≡ numbered f 0 xs
@@ -106,7 +106,7 @@ mixes_behind limits before s (ws ∷ more) tail long each =
     let here : entry_text (Mixes s ws) ≡ mix_text all s = ap (λ (xs : List ℤ). line_of (codes "mix") (pos s ∷ xs)) (weights_at C s before ws (joined more) long each.0.long) in
     let grown : length (before ++ ws) ≡ (s + 1) * C = counted s C (length (before ++ ws)) (length before) (length ws) (length-append {A = ℤ} before ws) long each.0.long in
     let again : flat_map (mix_text (record { states = limits.states; actions = C; weights = (before ++ ws) ++ joined more })) (range_with_len (s + 1) (length more)) ≡ flat_map (mix_text all) (range_with_len (s + 1) (length more)) =
-        ap (λ (xs : List ℤ). flat_map (mix_text (record { states = limits.states; actions = C; weights = xs })) (range_with_len (s + 1) (length more))) (append_assoc before ws (joined more)) in
+    ap (λ (xs : List ℤ). flat_map (mix_text (record { states = limits.states; actions = C; weights = xs })) (range_with_len (s + 1) (length more))) (append_assoc before ws (joined more)) in
     ap (λ (x : List ℕ). x ++ flat_map entry_text (mixes_from (s + 1) more tail)) here
     ∙ ap (λ (x : List ℕ). mix_text all s ++ x) (mixes_behind limits (before ++ ws) (s + 1) more tail grown each.1 ∙ ap (λ (x : List ℕ). x ++ flat_map entry_text tail) again)
     ∙ sym (append_assoc (mix_text all s) (flat_map (mix_text all) (range_with_len (s + 1) (length more))) (flat_map entry_text tail))
@@ -130,7 +130,7 @@ spots_text limits points j (p ∷ ps) good =
     let rest = numbered (λ i p. point_text i (spot_data limits p)) (j + 1) ps in
     let tail = splits p.splits (spots_from (j + 1) ps) in
     let mixes : flat_map entry_text (mixes_from 0 p.mixes tail) ≡ M ++ flat_map entry_text tail =
-        mixes_behind limits [] 0 p.mixes tail (omega arith) good.0.mixes ∙ ap (λ (n : ℕ). flat_map (mix_text (mixes_data limits p.mixes)) (below n) ++ flat_map entry_text tail) good.0.count in
+    mixes_behind limits [] 0 p.mixes tail (omega arith) good.0.mixes ∙ ap (λ (n : ℕ). flat_map (mix_text (mixes_data limits p.mixes)) (below n) ++ flat_map entry_text tail) good.0.count in
     ap (λ (x : List ℕ). A ++ (B ++ (V ++ x))) (mixes ∙ ap (λ (x : List ℕ). M ++ x) (splits_text p.splits (spots_from (j + 1) ps) ∙ ap (λ (x : List ℕ). D ++ x) (spots_text limits points (j + 1) ps good.1)))
     ∙ five A B V M D (rest ++ E)
     ∙ sym (append_assoc (point_text j (spot_data limits p)) rest E)
@@ -162,10 +162,10 @@ whole_bytes limits points k spots same good =
     let E = line_of (codes "end") [] in
     let nodes : numbered node_text 0 k.nodes ≡ N = sym (numbered_all node_text k.nodes no_node) in
     let spot : numbered (λ i p. point_text i (spot_data limits p)) 0 spots ≡ P =
-        numbered_map limits 0 spots ∙ ap (numbered point_text 0) (sym same) ∙ sym (numbered_all point_text k.points no_point) in
+    numbered_map limits 0 spots ∙ ap (numbered point_text 0) (sym same) ∙ sym (numbered_all point_text k.points no_point) in
     let body : flat_map entry_text (nodes_from 0 k.nodes (spots_from 0 spots)) ≡ N ++ (P ++ E) =
-        nodes_text 0 k.nodes (spots_from 0 spots) ∙ ap (λ (x : List ℕ). x ++ flat_map entry_text (spots_from 0 spots)) nodes
-        ∙ ap (λ (x : List ℕ). N ++ x) (spots_text limits points 0 spots good ∙ ap (λ (x : List ℕ). x ++ E) spot) in
+    nodes_text 0 k.nodes (spots_from 0 spots) ∙ ap (λ (x : List ℕ). x ++ flat_map entry_text (spots_from 0 spots)) nodes
+    ∙ ap (λ (x : List ℕ). N ++ x) (spots_text limits points 0 spots good ∙ ap (λ (x : List ℕ). x ++ E) spot) in
     eight (entry_text Version) (entry_text (Outcome k.outcome)) (entry_text (Gap k.gap)) (entry_text (Lower k.lower)) (entry_text (Upper k.upper)) (entry_text (Tail k.tail))
-        (entry_text (Sizes (length k.nodes) (length k.points))) (entry_text (Start k.start_node k.start_point)) (flat_map entry_text (nodes_from 0 k.nodes (spots_from 0 spots)))
+    (entry_text (Sizes (length k.nodes) (length k.points))) (entry_text (Start k.start_node k.start_point)) (flat_map entry_text (nodes_from 0 k.nodes (spots_from 0 spots)))
     ∙ ap (λ (x : List ℕ). head_text k ++ x) body

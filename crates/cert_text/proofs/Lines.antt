@@ -171,9 +171,10 @@ accepted_bytes g bytes es a =
     let words = say_words (start_of g) reads.0 es reads.2 in
     let front = lines_of-front bytes reads.0 [] reads.1 in
     let counted : length reads.0 ≡ length es = ap length words ∙ length-map es words_in in
-    let none : after_lines (length reads.0) bytes ≡ [] = ap (λ (n : ℕ). after_lines n bytes) counted ∙ a.1 in
-    (front.0 ∙ ap (λ (x : List ℕ). lines_text reads.0 ++ x) none ∙ append-nil (lines_text reads.0) ∙ ap lines_text words ∙ lines_words es,
-     (subst (λ (ls : List Line). Say (start_of g) ls es) words reads.2, a.0.1))
+    let none : after_lines (length reads.0) bytes ≡ [] = ap (λ (n : ℕ). after_lines n bytes) counted ∙ a.1 in (
+      front.0 ∙ ap (λ (x : List ℕ). lines_text reads.0 ++ x) none ∙ append-nil (lines_text reads.0) ∙ ap lines_text words ∙ lines_words es,
+      (subst (λ (ls : List Line). Say (start_of g) ls es) words reads.2, a.0.1),
+    )
 
 pub lines_are_texts : (g : GameData) (bytes : List ℕ) (es : List Entry) → IsGame g → AcceptsCert g bytes es → IsTextFor g (certificate_of g es) bytes
 lines_are_texts g bytes es game a =

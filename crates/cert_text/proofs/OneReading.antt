@@ -47,7 +47,7 @@ same_reading place (x ∷ xs) (y ∷ ys) r s (g ∷ es) (f ∷ fs) a b e p q =
     let said : entry_of place x ≡ Ok f = ap (entry_of place) h.0 ∙ b.0 in
     let same : g ≡ f = told_once (entry_of place x) g f a.0 said in
     let rest = same_reading (place_after place g) xs ys r s es fs a.1 (subst (λ (z : Entry). Say (place_after place z) ys fs) (sym same) b.1) h.1 p
-        (subst (λ (z : Entry). Stops (behind (place_after place z) fs) s) (sym same) q) in
+    (subst (λ (z : Entry). Stops (behind (place_after place z) fs) s) (sym same) q) in
     (ap (λ (z : Entry). z ∷ es) same ∙ ap (λ (zs : List Entry). f ∷ zs) rest.0, rest.1)
 
 -- at the end nothing can go on

@@ -79,6 +79,7 @@ fill_back limits lacking b bs kept long lown lseen fill a o la lo = by (eqb b.ow
     other none apart =
         let old = get_or-set_other lacking (place_at limits b) (a * limits.observations + o) (slice_index_or lacking (place_at limits b) (pos 0) -ℤ b.weight) (pos 0) apart in
         sym old ∙ fill a o la lo ∙ sym (sum_other b bs a o none)
+
     by : (p q : Bool) → eqb b.own a ≡ p → eqb b.seen o ≡ q → slice_index_or lacking (a * limits.observations + o) (pos 0) ≡ place_sum (b ∷ bs) a o
     by true true p q =
         let ea = eqb-true b.own a p in
@@ -87,7 +88,7 @@ fill_back limits lacking b bs kept long lown lseen fill a o la lo = by (eqb b.ow
         let small = place_below limits.own_actions limits.observations b.own b.seen kept.own_actions.1 kept.observations.1 lown lseen in
         let new = get_or-set_same lacking (place_at limits b) (slice_index_or lacking (place_at limits b) (pos 0) -ℤ b.weight) (pos 0) (omega (arith, small, long)) in
         let left : slice_index_or lacking (place_at limits b) (pos 0) -ℤ b.weight ≡ place_sum bs a o =
-            sym new ∙ ap (λ (x : ℕ). slice_index_or (lacking_less lacking (place_at limits b) b.weight) x (pos 0)) (sym at) ∙ fill a o la lo in
+        sym new ∙ ap (λ (x : ℕ). slice_index_or (lacking_less lacking (place_at limits b) b.weight) x (pos 0)) (sym at) ∙ fill a o la lo in
         ap (λ (x : ℕ). slice_index_or lacking x (pos 0)) at ∙ moved (slice_index_or lacking (place_at limits b) (pos 0)) b.weight (place_sum bs a o) left ∙ sym (sum_here b bs a o ea eo)
       where
         moved : (x w s : ℤ) → x -ℤ w ≡ s → x ≡ w +ℤ s
@@ -114,6 +115,7 @@ lacking_at limits ws kept a o la lo =
     from f zero low i l = absurd (omega arith)
     from f (suc n) low zero l = let e : low ≡ low + 0 = omega arith in ap f e
     from f (suc n) low (suc i) l = let e : low + 1 + i ≡ low + suc i = omega arith in from f n (low + 1) i (omega arith) ∙ ap f e
+
     map_below : (f : ℕ → ℤ) (n i : ℕ) → i < n → slice_index_or (map f (below n)) i (pos 0) ≡ f i
     map_below f n i l = let e : 0 + i ≡ i = omega arith in from f n 0 i l ∙ ap f e
 

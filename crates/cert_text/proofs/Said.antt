@@ -238,10 +238,12 @@ gap-ok line e h =
     let n' = limited-ok (pos 0) (pos (2 ^ 40)) f.0.num n.0 n.1 in
     let d' = limited-ok (pos 1) (pos (2 ^ 20)) f.0.den d.0 d.1 in
     let f' = fraction_of-ok w.0 f.0 f.1 in
-    let same : f.0 ≡ record { num = n.0; den = d.0 } = pair_is f.0 n.0 d.0 n'.1 d'.1 in
-    (record { num = n.0; den = d.0 }, said_is (Gap (record { num = n.0; den = d.0 })) e d.2,
-     word_after-ok (codes "gap") line w.0 w.1 ∙ ap (λ (x : List ℕ). codes "gap" ∷ x ∷ []) (f'.0 ∙ ap fraction_word same),
-     record { num = n'.0; den = d'.0 })
+    let same : f.0 ≡ record { num = n.0; den = d.0 } = pair_is f.0 n.0 d.0 n'.1 d'.1 in (
+      record { num = n.0; den = d.0 },
+      said_is (Gap (record { num = n.0; den = d.0 })) e d.2,
+      word_after-ok (codes "gap") line w.0 w.1 ∙ ap (λ (x : List ℕ). codes "gap" ∷ x ∷ []) (f'.0 ∙ ap fraction_word same),
+      record { num = n'.0; den = d'.0 },
+    )
   where
     pair_is : (f : FractionData) (n d : ℤ) → f.num ≡ n → f.den ≡ d → f ≡ record { num = n; den = d }
     pair_is f n d p q = ap (λ (x : ℤ). record { num = x; den = f.den }) p ∙ ap (λ (x : ℤ). record { num = n; den = x }) q
@@ -304,9 +306,13 @@ sizes-ok states line e h =
     let b' = at_least-ok (pos states) (number_at ns 1) b.0 b.1 in
     let n' = few-ok a.0 n.0 (omega (arith, ints, a'.0)) n.1 in
     let p' = few-ok b.0 p.0 (omega (arith, ints, b'.0)) p.1 in
-    let all = two_are ns (pos n.0) (pos p.0) w.1 (a'.1 ∙ n'.1) (b'.1 ∙ p'.1) in
-    (n.0, p.0, said_is (Sizes n.0 p.0) e p.2, w.0 ∙ ap (λ (xs : List ℤ). codes "sizes" ∷ map signed_decimal xs) all,
-     record { some = omega (arith, ints, a'.0, n'.1); each = omega (arith, ints, b'.0, p'.1); most_nodes = n'.0; most_points = p'.0 })
+    let all = two_are ns (pos n.0) (pos p.0) w.1 (a'.1 ∙ n'.1) (b'.1 ∙ p'.1) in (
+      n.0,
+      p.0,
+      said_is (Sizes n.0 p.0) e p.2,
+      w.0 ∙ ap (λ (xs : List ℤ). codes "sizes" ∷ map signed_decimal xs) all,
+      record { some = omega (arith, ints, a'.0, n'.1); each = omega (arith, ints, b'.0, p'.1); most_nodes = n'.0; most_points = p'.0 },
+    )
 
 pub start-ok : (nodes points : ℕ) (line : Line) (e : Entry) → start_said nodes points line ≡ Ok e → (i : ℕ) × (j : ℕ) × (e ≡ Start i j) × (line ≡ words_in (Start i j)) × (i < nodes) × (j < points)
 unfolding start_said
@@ -389,14 +395,16 @@ branch-ok name most members place line b h =
     let weight' = limited-ok (pos 1) most (number_at ns 3) weight.0 weight.1 in
     let member' = member_below-ok members k.0 member.0 k'.0 member.1 in
     let all = four_are ns (pos own.0) (pos seen.0) (pos member.0) weight.0 w.1 own'.1 seen'.1 (k'.1 ∙ member'.1) weight'.1 in
-    subst (λ (x : Branch). (line ≡ name ∷ map signed_decimal (branch_numbers x)) × BranchFits place members most x) (same_branch (record { own = own.0; seen = seen.0; member = member.0; weight = weight.0 }) b member.2)
-    (w.0 ∙ ap (λ (xs : List ℤ). name ∷ map signed_decimal xs) all, record {
-      own = own'.0;
-      seen = seen'.0;
-      member = member'.0;
-      weight = weight'.0;
-      later = subst (λ (x : ℤ). IsLater place.latest own.0 seen.0 x) member'.1 (later_branch-ok place.latest own.0 seen.0 k.0 later.0 later.1);
-    })
+    subst (λ (x : Branch). (line ≡ name ∷ map signed_decimal (branch_numbers x)) × BranchFits place members most x) (same_branch (record { own = own.0; seen = seen.0; member = member.0; weight = weight.0 }) b member.2) (
+      w.0 ∙ ap (λ (xs : List ℤ). name ∷ map signed_decimal xs) all,
+      record {
+        own = own'.0;
+        seen = seen'.0;
+        member = member'.0;
+        weight = weight'.0;
+        later = subst (λ (x : ℤ). IsLater place.latest own.0 seen.0 x) member'.1 (later_branch-ok place.latest own.0 seen.0 k.0 later.0 later.1);
+      },
+    )
 
 pub record NextFits (place : Place) (b : Branch) : Type 0 where
   pub branch : BranchFits place place.nodes (pos mix_total) b
@@ -409,12 +417,16 @@ next-ok place line e h =
     let b = bind_ok (branch_said (codes "next") (pos mix_total) place.nodes place line) _ e h in
     let n = bind_ok (none_lacks (take (place_at place.limits b.0) place.lacking)) _ e b.2 in
     let f = bind_ok (fits_lack (slice_index_or place.lacking (place_at place.limits b.0) (pos 0)) b.0.weight) _ e n.2 in
-    let b' = branch-ok (codes "next") (pos mix_total) place.nodes place line b.0 b.1 in
-    (b.0, said_is (Next b.0) e f.2, b'.0, record {
-      branch = b'.1;
-      earlier = none_lacks-ok (take (place_at place.limits b.0) place.lacking) n.0 n.1;
-      room = fits_lack-ok (slice_index_or place.lacking (place_at place.limits b.0) (pos 0)) b.0.weight f.0 f.1;
-    })
+    let b' = branch-ok (codes "next") (pos mix_total) place.nodes place line b.0 b.1 in (
+      b.0,
+      said_is (Next b.0) e f.2,
+      b'.0,
+      record {
+        branch = b'.1;
+        earlier = none_lacks-ok (take (place_at place.limits b.0) place.lacking) n.0 n.1;
+        room = fits_lack-ok (slice_index_or place.lacking (place_at place.limits b.0) (pos 0)) b.0.weight f.0 f.1;
+      },
+    )
 
 -- the lines of a point
 
@@ -465,9 +477,12 @@ mixes-ok limits state line e h =
     let s = bind_ok (sums_to_mix (drop 1 l.0)) _ e d.2 in
     let w = numbers_after-ok (codes "mix") (limits.informed_actions + 1) line l.0 l.1 in
     let n = some_numbers l.0 limits.informed_actions w.1 in
-    let all : l.0 ≡ pos state ∷ drop 1 l.0 = n.0 ∙ ap (λ (x : ℤ). x ∷ drop 1 l.0) (is_due-ok state (number_at l.0 0) d.0 d.1) in
-    (drop 1 l.0, said_is (Mixes state (drop 1 l.0)) e s.2, w.0 ∙ ap (λ (xs : List ℤ). codes "mix" ∷ map signed_decimal xs) all,
-     record { long = n.1; each = each_within-ok (pos 0) (pos mix_total) (drop 1 l.0) a.0 a.1; sums = sums_to_mix-ok (drop 1 l.0) s.0 s.1 })
+    let all : l.0 ≡ pos state ∷ drop 1 l.0 = n.0 ∙ ap (λ (x : ℤ). x ∷ drop 1 l.0) (is_due-ok state (number_at l.0 0) d.0 d.1) in (
+      drop 1 l.0,
+      said_is (Mixes state (drop 1 l.0)) e s.2,
+      w.0 ∙ ap (λ (xs : List ℤ). codes "mix" ∷ map signed_decimal xs) all,
+      record { long = n.1; each = each_within-ok (pos 0) (pos mix_total) (drop 1 l.0) a.0 a.1; sums = sums_to_mix-ok (drop 1 l.0) s.0 s.1 },
+    )
 
 abbrev pub SplitFits : Place → Branch → Type 0
 SplitFits place b = BranchFits place place.points most_share b

@@ -174,10 +174,13 @@ past_from : (a o k own seen : ℕ) (member : ℤ) → is_after a o k own seen me
 past_from a o k own seen member h = elim (or_true (nat_lt a own) ((a == own) && (nat_lt o seen || ((o == seen) && int_lt (pos k) member))) h) [
   | inl e ↦ inl (ltb-true a own e)
   | inr e ↦ let p = and_true (a == own) (nat_lt o seen || ((o == seen) && int_lt (pos k) member)) e in
-    inr (eqb-true a own p.0, elim (or_true (nat_lt o seen) ((o == seen) && int_lt (pos k) member) p.1) [
-      | inl f ↦ inl (ltb-true o seen f)
-      | inr f ↦ let q = and_true (o == seen) (int_lt (pos k) member) f in inr (eqb-true o seen q.0, lt_from (pos k) member q.1)
-    ])
+      inr (
+        eqb-true a own p.0,
+        elim (or_true (nat_lt o seen) ((o == seen) && int_lt (pos k) member) p.1) [
+          | inl f ↦ inl (ltb-true o seen f)
+          | inr f ↦ let q = and_true (o == seen) (int_lt (pos k) member) f in inr (eqb-true o seen q.0, lt_from (pos k) member q.1)
+        ],
+      )
 ]
 
 past_to : (a o k own seen : ℕ) (member : ℤ) → IsPast a o k own seen member → is_after a o k own seen member ≡ true

@@ -127,7 +127,12 @@ fn add_share(points: &mut Vec<Spot>, b: Branch) -> Result<(), AllocFailed<Share>
 }
 
 /// Takes what one more line says.
-pub fn take(alloc: Global, limits: &Limits, draft: &mut Draft, entry: Entry) -> Result<(), CertFault>
+pub fn take(
+    alloc: Global,
+    limits: &Limits,
+    draft: &mut Draft,
+    entry: Entry,
+) -> Result<(), CertFault>
     ensures memory { IfErr result (λ fault. fault ≡ certs.OutOfMemory) }
     ensures taken { OnOk result (draft_data draft.new ≡ with_entry limits.now (draft_data draft.old) (entry_in entry)) }
 {

@@ -11,6 +11,7 @@ use std::alloc::Global;
 
 /// The greatest numerator and the greatest denominator of a gap.
 const MOST_GAP: i128 = 1 << 40;
+
 const MOST_GAP_UNDER: i128 = 1 << 20;
 
 #[tactic(auto, unfolding(crate::specs::Entries::version_said))]
@@ -88,7 +89,12 @@ pub fn sizes_line(alloc: Global, states: u32, words: &[&[u8]]) -> Result<Entry, 
 }
 
 #[tactic(auto, unfolding(crate::specs::Entries::start_said))]
-pub fn start_line(alloc: Global, nodes: u32, points: u32, words: &[&[u8]]) -> Result<Entry, LineFault>
+pub fn start_line(
+    alloc: Global,
+    nodes: u32,
+    points: u32,
+    words: &[&[u8]],
+) -> Result<Entry, LineFault>
     ensures { Gives entry_in result (start_said nodes points (map (λ word. word.now) words.now)) }
 {
     let numbers = numbers_after(alloc, words, b"start", 2)?;

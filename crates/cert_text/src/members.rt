@@ -19,7 +19,12 @@ const MOST_SHARE: i128 = 1 << 66;
 
 /// The node of this number, where no place of the node before lacks anything.
 #[tactic(auto, unfolding(crate::specs::Entries::node_said))]
-pub fn node_line(alloc: Global, number: u32, lacking: &[i128], words: &[&[u8]]) -> Result<Entry, LineFault>
+pub fn node_line(
+    alloc: Global,
+    number: u32,
+    lacking: &[i128],
+    words: &[&[u8]],
+) -> Result<Entry, LineFault>
     ensures { Gives entry_in result (node_said number lacking.now (map (λ word. word.now) words.now)) }
 {
     let numbers = numbers_after(alloc, words, b"node", 1)?;
@@ -51,7 +56,14 @@ pub fn mix_line(alloc: Global, limits: &Limits, words: &[&[u8]]) -> Result<Entry
 
 /// A branch to one of so many members, with a weight of 1 to the most.
 #[tactic(auto, unfolding(crate::specs::Entries::branch_said))]
-fn branch(alloc: Global, name: &[u8], most: i128, members: u32, place: &Place, words: &[&[u8]]) -> Result<Branch, LineFault>
+fn branch(
+    alloc: Global,
+    name: &[u8],
+    most: i128,
+    members: u32,
+    place: &Place,
+    words: &[&[u8]],
+) -> Result<Branch, LineFault>
     ensures gives { Gives branch_of result (branch_said name.now most members place.now (map (λ word. word.now) words.now)) }
     ensures own { IfOk result (λ b. b.own < place.now.limits.own_actions) }
     ensures seen { IfOk result (λ b. b.seen < place.now.limits.observations) }
@@ -63,7 +75,12 @@ fn branch(alloc: Global, name: &[u8], most: i128, members: u32, place: &Place, w
     let weight = limited(1, most, numbers[3])?;
     later_branch(place.latest, own, seen, number)?;
     let member = member_below(members, number)?;
-    Ok(Branch { own, seen, member, weight })
+    Ok(Branch {
+        own,
+        seen,
+        member,
+        weight,
+    })
 }
 
 /// A step: no earlier place lacks anything, and this one lacks its weight.
@@ -81,7 +98,12 @@ pub fn next_line(alloc: Global, place: &Place, words: &[&[u8]]) -> Result<Entry,
 
 /// The point of this number, where no place of the last node lacks anything.
 #[tactic(auto, unfolding(crate::specs::Entries::point_said))]
-pub fn point_line(alloc: Global, number: u32, lacking: &[i128], words: &[&[u8]]) -> Result<Entry, LineFault>
+pub fn point_line(
+    alloc: Global,
+    number: u32,
+    lacking: &[i128],
+    words: &[&[u8]],
+) -> Result<Entry, LineFault>
     ensures { Gives entry_in result (point_said number lacking.now (map (λ word. word.now) words.now)) }
 {
     let numbers = numbers_after(alloc, words, b"point", 1)?;
@@ -140,7 +162,12 @@ pub fn value_line(alloc: Global, place: &Place, words: &[&[u8]]) -> Result<Entry
 
 /// The mix of the state that is due.
 #[tactic(auto, unfolding(crate::specs::Entries::mixes_said))]
-pub fn mixes_line(alloc: Global, limits: &Limits, state: u32, words: &[&[u8]]) -> Result<Entry, LineFault>
+pub fn mixes_line(
+    alloc: Global,
+    limits: &Limits,
+    state: u32,
+    words: &[&[u8]],
+) -> Result<Entry, LineFault>
     requires { AreLimits limits.now }
     ensures { Gives entry_in result (mixes_said limits.now state (map (λ word. word.now) words.now)) }
 {

@@ -36,21 +36,81 @@ fn refusal(alloc: Global, game: &Game, text: &[u8]) -> Result<(u32, u32), CertFa
 fn a_certificate_is_read_or_refused_at_its_line(rt: HostRuntime) -> Result<(), Fail> {
     let game = three_halved(rt.alloc())?;
     let table: [(&[u8], u32, u32); 15] = [
-        (b"certificate 1\noutcome closed\ngap 0/1\nlower 393216/65536\nupper 393216/65536\ntail 393216/65536\nsizes 1 1\nstart 0 0\nnode 0\nvector 393216\nmix 65536\nnext 0 0 0 65536\npoint 0\nbelief 1\nvalue 393216\nmix 0 65536\nsplit 0 0 0 65536\nend\n", 0, 0),
-        (b"certificate 1\noutcome open\ngap 0/1\nlower 393216/65536\nupper 393216/65536\ntail 393216/65536\nsizes 1 1\nstart 0 0\nnode 0\nvector 393216\nmix 65536\nnext 0 0 0 65536\npoint 0\nbelief 1\nvalue 393216\nmix 0 65536\nsplit 0 0 0 65536\nend\n", 2, 2),
-        (b"certificate 1\noutcome trials\ngap 0/1\nlower 393216/65536\nupper 393216/65536\ntail 393216/65536\nsizes 1 1\nstart 0 0\nnode 0\nvector 393216\nmix 65536\nnext 0 0 0 65536\npoint 0\nbelief 1\nvalue 393216\nmix 0 65536\nsplit 0 0 0 65536\nend\n", 0, 0),
-        (b"certificate 1\noutcome closed\ngap 0/1\nlower 393215/65536\nupper 393216/65536\ntail 393216/65536\nsizes 1 1\nstart 0 0\nnode 0\nvector 393216\nmix 65536\nnext 0 0 0 65536\npoint 0\nbelief 1\nvalue 393216\nmix 0 65536\nsplit 0 0 0 65536\nend\n", 0, 0),
-        (b"certificate 1\noutcome closed\ngap 0/1\nlower 393216/65536\nupper 393216/65536\ntail 393216/65536\nsizes 1 1\nstart 1 0\nnode 0\nvector 393216\nmix 65536\nnext 0 0 0 65536\npoint 0\nbelief 1\nvalue 393216\nmix 0 65536\nsplit 0 0 0 65536\nend\n", 8, 6),
-        (b"certificate 1\noutcome closed\ngap 0/1\nlower 393216/65536\nupper 393216/65536\ntail 393216/65536\nsizes 1 1\nstart 0 0\nnode 0\nvector 393216\nmix 65535\nnext 0 0 0 65536\npoint 0\nbelief 1\nvalue 393216\nmix 0 65536\nsplit 0 0 0 65536\nend\n", 11, 7),
-        (b"certificate 1\noutcome closed\ngap 0/1\nlower 393216/65536\nupper 393216/65536\ntail 393216/65536\nsizes 1 1\nstart 0 0\nnode 0\nvector 393216\nmix 65536\nnext 0 0 0 65535\npoint 0\nbelief 1\nvalue 393216\nmix 0 65536\nsplit 0 0 0 65536\nend\n", 13, 7),
-        (b"certificate 1\noutcome closed\ngap 0/1\nlower 393216/65536\nupper 393216/65536\ntail 393216/65536\nsizes 1 1\nstart 0 0\nnode 0\nvector 393216\nmix 65536\nnext 0 0 0 65536\npoint 0\nbelief 2\nvalue 393216\nmix 0 65536\nsplit 0 0 0 65536\nend\n", 14, 7),
-        (b"certificate 1\noutcome closed\ngap 0/1\nlower 393216/65536\nupper 393216/65536\ntail 393216/65536\nsizes 1 1\nstart 0 0\nnode 0\nvector 393216\nmix 65536\nnext 0 0 0 65536\npoint 0\nbelief 1\nvalue 393216\nmix 0 65536\nsplit 0 0 0 65536\nend\nend\n", 19, 8),
-        (b"certificate 1\noutcome closed\ngap 0/1\nlower 393216/65536\nupper 393216/65536\ntail 393216/65536\nsizes 1 1\nstart 0 0\nnode 0\nvector 393216\nmix 65536\nnext 0 0 0 65536\npoint 0\nbelief 1\nvalue 393216\nmix 0 65536\nsplit 0 0 0 65536\n", 18, 10),
-        (b"certificate 1\noutcome closed\ngap 0/1\nlower 393216/65536\nupper 393216/65536\ntail 393216/65536\nsizes 1025 1\nstart 0 0\nnode 0\nvector 393216\nmix 65536\nnext 0 0 0 65536\npoint 0\nbelief 1\nvalue 393216\nmix 0 65536\nsplit 0 0 0 65536\nend\n", 7, 9),
-        (b"certificate 1\noutcome closed\ngap 0/1\nlower 393216/65536\nupper 393216/65536\ntail 393216/65536\nsizes 1 1\nstart 0 0\nnode 0\nvector 393217\nmix 65536\nnext 0 0 0 65536\npoint 0\nbelief 1\nvalue 393216\nmix 0 65536\nsplit 0 0 0 65536\nend\n", 10, 4),
-        (b"certificate 1\noutcome closed\ngap 0/1\nlower 393216/65536\nupper 393216/65536\ntail 393216/65536\nsizes 0 2000\nstart 0 0\nnode 0\nvector 393216\nmix 65536\nnext 0 0 0 65536\npoint 0\nbelief 1\nvalue 393216\nmix 0 65536\nsplit 0 0 0 65536\nend\n", 7, 4),
-        (b"certificate 1\noutcome closed\ngap 0/01\nlower 393216/65536\nupper 393216/65536\ntail 393216/65536\nsizes 1 1\nstart 0 0\nnode 0\nvector 393216\nmix 65536\nnext 0 0 0 65536\npoint 0\nbelief 1\nvalue 393216\nmix 0 65536\nsplit 0 0 0 65536\nend\n", 3, 3),
-        (b"certificate 2\noutcome closed\ngap 0/1\nlower 393216/65536\nupper 393216/65536\ntail 393216/65536\nsizes 1 1\nstart 0 0\nnode 0\nvector 393216\nmix 65536\nnext 0 0 0 65536\npoint 0\nbelief 1\nvalue 393216\nmix 0 65536\nsplit 0 0 0 65536\nend\n", 1, 1),
+        (
+            b"certificate 1\noutcome closed\ngap 0/1\nlower 393216/65536\nupper 393216/65536\ntail 393216/65536\nsizes 1 1\nstart 0 0\nnode 0\nvector 393216\nmix 65536\nnext 0 0 0 65536\npoint 0\nbelief 1\nvalue 393216\nmix 0 65536\nsplit 0 0 0 65536\nend\n",
+            0,
+            0,
+        ),
+        (
+            b"certificate 1\noutcome open\ngap 0/1\nlower 393216/65536\nupper 393216/65536\ntail 393216/65536\nsizes 1 1\nstart 0 0\nnode 0\nvector 393216\nmix 65536\nnext 0 0 0 65536\npoint 0\nbelief 1\nvalue 393216\nmix 0 65536\nsplit 0 0 0 65536\nend\n",
+            2,
+            2,
+        ),
+        (
+            b"certificate 1\noutcome trials\ngap 0/1\nlower 393216/65536\nupper 393216/65536\ntail 393216/65536\nsizes 1 1\nstart 0 0\nnode 0\nvector 393216\nmix 65536\nnext 0 0 0 65536\npoint 0\nbelief 1\nvalue 393216\nmix 0 65536\nsplit 0 0 0 65536\nend\n",
+            0,
+            0,
+        ),
+        (
+            b"certificate 1\noutcome closed\ngap 0/1\nlower 393215/65536\nupper 393216/65536\ntail 393216/65536\nsizes 1 1\nstart 0 0\nnode 0\nvector 393216\nmix 65536\nnext 0 0 0 65536\npoint 0\nbelief 1\nvalue 393216\nmix 0 65536\nsplit 0 0 0 65536\nend\n",
+            0,
+            0,
+        ),
+        (
+            b"certificate 1\noutcome closed\ngap 0/1\nlower 393216/65536\nupper 393216/65536\ntail 393216/65536\nsizes 1 1\nstart 1 0\nnode 0\nvector 393216\nmix 65536\nnext 0 0 0 65536\npoint 0\nbelief 1\nvalue 393216\nmix 0 65536\nsplit 0 0 0 65536\nend\n",
+            8,
+            6,
+        ),
+        (
+            b"certificate 1\noutcome closed\ngap 0/1\nlower 393216/65536\nupper 393216/65536\ntail 393216/65536\nsizes 1 1\nstart 0 0\nnode 0\nvector 393216\nmix 65535\nnext 0 0 0 65536\npoint 0\nbelief 1\nvalue 393216\nmix 0 65536\nsplit 0 0 0 65536\nend\n",
+            11,
+            7,
+        ),
+        (
+            b"certificate 1\noutcome closed\ngap 0/1\nlower 393216/65536\nupper 393216/65536\ntail 393216/65536\nsizes 1 1\nstart 0 0\nnode 0\nvector 393216\nmix 65536\nnext 0 0 0 65535\npoint 0\nbelief 1\nvalue 393216\nmix 0 65536\nsplit 0 0 0 65536\nend\n",
+            13,
+            7,
+        ),
+        (
+            b"certificate 1\noutcome closed\ngap 0/1\nlower 393216/65536\nupper 393216/65536\ntail 393216/65536\nsizes 1 1\nstart 0 0\nnode 0\nvector 393216\nmix 65536\nnext 0 0 0 65536\npoint 0\nbelief 2\nvalue 393216\nmix 0 65536\nsplit 0 0 0 65536\nend\n",
+            14,
+            7,
+        ),
+        (
+            b"certificate 1\noutcome closed\ngap 0/1\nlower 393216/65536\nupper 393216/65536\ntail 393216/65536\nsizes 1 1\nstart 0 0\nnode 0\nvector 393216\nmix 65536\nnext 0 0 0 65536\npoint 0\nbelief 1\nvalue 393216\nmix 0 65536\nsplit 0 0 0 65536\nend\nend\n",
+            19,
+            8,
+        ),
+        (
+            b"certificate 1\noutcome closed\ngap 0/1\nlower 393216/65536\nupper 393216/65536\ntail 393216/65536\nsizes 1 1\nstart 0 0\nnode 0\nvector 393216\nmix 65536\nnext 0 0 0 65536\npoint 0\nbelief 1\nvalue 393216\nmix 0 65536\nsplit 0 0 0 65536\n",
+            18,
+            10,
+        ),
+        (
+            b"certificate 1\noutcome closed\ngap 0/1\nlower 393216/65536\nupper 393216/65536\ntail 393216/65536\nsizes 1025 1\nstart 0 0\nnode 0\nvector 393216\nmix 65536\nnext 0 0 0 65536\npoint 0\nbelief 1\nvalue 393216\nmix 0 65536\nsplit 0 0 0 65536\nend\n",
+            7,
+            9,
+        ),
+        (
+            b"certificate 1\noutcome closed\ngap 0/1\nlower 393216/65536\nupper 393216/65536\ntail 393216/65536\nsizes 1 1\nstart 0 0\nnode 0\nvector 393217\nmix 65536\nnext 0 0 0 65536\npoint 0\nbelief 1\nvalue 393216\nmix 0 65536\nsplit 0 0 0 65536\nend\n",
+            10,
+            4,
+        ),
+        (
+            b"certificate 1\noutcome closed\ngap 0/1\nlower 393216/65536\nupper 393216/65536\ntail 393216/65536\nsizes 0 2000\nstart 0 0\nnode 0\nvector 393216\nmix 65536\nnext 0 0 0 65536\npoint 0\nbelief 1\nvalue 393216\nmix 0 65536\nsplit 0 0 0 65536\nend\n",
+            7,
+            4,
+        ),
+        (
+            b"certificate 1\noutcome closed\ngap 0/01\nlower 393216/65536\nupper 393216/65536\ntail 393216/65536\nsizes 1 1\nstart 0 0\nnode 0\nvector 393216\nmix 65536\nnext 0 0 0 65536\npoint 0\nbelief 1\nvalue 393216\nmix 0 65536\nsplit 0 0 0 65536\nend\n",
+            3,
+            3,
+        ),
+        (
+            b"certificate 2\noutcome closed\ngap 0/1\nlower 393216/65536\nupper 393216/65536\ntail 393216/65536\nsizes 1 1\nstart 0 0\nnode 0\nvector 393216\nmix 65536\nnext 0 0 0 65536\npoint 0\nbelief 1\nvalue 393216\nmix 0 65536\nsplit 0 0 0 65536\nend\n",
+            1,
+            1,
+        ),
     ];
     for (text, line, kind) in &table {
         assert!(rt; text.len() < 1000);

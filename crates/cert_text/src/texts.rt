@@ -129,10 +129,22 @@ fn finish(alloc: Global, game: &Game, draft: Draft) -> Result<Certificate, CertF
     let nodes = node_set(alloc, game, draft.nodes)?;
     let points = point_set(alloc, game, draft.points)?;
     Ok(Certificate {
-        lower: Fraction { num: draft.lower.0, den: draft.lower.1 },
-        upper: Fraction { num: draft.upper.0, den: draft.upper.1 },
-        tail: Fraction { num: draft.tail.0, den: draft.tail.1 },
-        gap: Fraction { num: draft.gap.0, den: draft.gap.1 },
+        lower: Fraction {
+            num: draft.lower.0,
+            den: draft.lower.1,
+        },
+        upper: Fraction {
+            num: draft.upper.0,
+            den: draft.upper.1,
+        },
+        tail: Fraction {
+            num: draft.tail.0,
+            den: draft.tail.1,
+        },
+        gap: Fraction {
+            num: draft.gap.0,
+            den: draft.gap.1,
+        },
         outcome: draft.outcome,
         nodes,
         points,

@@ -224,9 +224,9 @@ is_refused status = ⊥
 
 not_refused : (status : Status) → (status ≡ Done) ⊎ (status ≡ No) ⊎ (status ≡ GameRefused) ⊎ (status ≡ CertRefused) → status ≡ WordsRefused → ⊥
 not_refused status one e = elim one [
-  inl a ↦ subst is_refused (sym e ∙ a) tt
+  | inl a ↦ subst is_refused (sym e ∙ a) tt
   | inr b ↦ elim b [
-    inl a ↦ subst is_refused (sym e ∙ a) tt
+    | inl a ↦ subst is_refused (sym e ∙ a) tt
     | inr b ↦ elim b [ inl a ↦ subst is_refused (sym e ∙ a) tt | inr a ↦ subst is_refused (sym e ∙ a) tt ]
   ]
 ]

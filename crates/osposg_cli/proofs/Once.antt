@@ -177,12 +177,12 @@ pub floor-work_once : SeedsAreOne → TextsAreGames → RefusedOnce → WholeTex
     IsWork Floor input status text → IsWork Floor input other more → Same status other text more
 floor-work_once one games once whole input status other text more h k =
     elim (floor-view input status text h) [
-      inl a ↦ elim (floor-view input other more k) [
-        inl b ↦ (a.0 ∙ sym b.0, floored-once one games input text more a.1 b.1)
+      | inl a ↦ elim (floor-view input other more k) [
+        | inl b ↦ (a.0 ∙ sym b.0, floored-once one games input text more a.1 b.1)
         | inr b ↦ absurd (both text more a.1 b.1)
       ]
       | inr a ↦ elim (floor-view input other more k) [
-        inl b ↦ absurd (both more text b.1 a.1)
+        | inl b ↦ absurd (both more text b.1 a.1)
         | inr b ↦ (a.0 ∙ sym b.0, refused-once once input text more a.1 b.1)
       ]
     ]
@@ -205,12 +205,12 @@ pub verdict-once : FailsOnce → FailingFalls → (g : GameData) (k : Certificat
     IsVerdict g k status text → IsVerdict g k other more → Same status other text more
 verdict-once once falls g k status other text more h m =
     elim (verdict-view g k status text h) [
-      inl a ↦ elim (verdict-view g k other more m) [
-        inl b ↦ (a.0 ∙ sym b.0, yes-once k text more (low k.lower a.1.fits.short.0) (low k.upper a.1.fits.short.1) (low k.tail a.1.fits.short.2) a.2 b.2)
+      | inl a ↦ elim (verdict-view g k other more m) [
+        | inl b ↦ (a.0 ∙ sym b.0, yes-once k text more (low k.lower a.1.fits.short.0) (low k.upper a.1.fits.short.1) (low k.tail a.1.fits.short.2) a.2 b.2)
         | inr b ↦ absurd (falls g k b.1.0 b.1.1 a.1)
       ]
       | inr a ↦ elim (verdict-view g k other more m) [
-        inl b ↦ absurd (falls g k a.1.0 a.1.1 b.1)
+        | inl b ↦ absurd (falls g k a.1.0 a.1.1 b.1)
         | inr b ↦ (a.0 ∙ sym b.0, a.1.2 ∙ ap no_text (once g k a.1.0 b.1.0 a.1.1 b.1.1) ∙ sym b.1.2)
       ]
     ]
@@ -234,12 +234,12 @@ pub judged-once : CertLaws → (g : GameData) (rest : List ℕ) → IsGame g →
     IsJudged g rest status text → IsJudged g rest other more → Same status other text more
 judged-once laws g rest game status other text more h m =
     elim (judged-view g rest status text h) [
-      inl a ↦ elim (judged-view g rest other more m) [
-        inl b ↦ (a.0 ∙ sym b.0, refusals a.1 b.1)
+      | inl a ↦ elim (judged-view g rest other more m) [
+        | inl b ↦ (a.0 ∙ sym b.0, refusals a.1 b.1)
         | inr b ↦ absurd (both other more text b a.1)
       ]
       | inr a ↦ elim (judged-view g rest other more m) [
-        inl b ↦ absurd (both status text more a b.1)
+        | inl b ↦ absurd (both status text more a b.1)
         | inr b ↦ reads a b
       ]
     ]
@@ -263,12 +263,12 @@ pub check-work_once : CertLaws → TextsAreGames → RefusedOnce → TextsAreNot
     IsWork Check input status text → IsWork Check input other more → Same status other text more
 check-work_once laws games once not input status other text more h k =
     elim (check-view input status text h) [
-      inl a ↦ elim (check-view input other more k) [
-        inl b ↦ (a.0 ∙ sym b.0, refused-once once input text more (whole text a.1) (whole more b.1))
+      | inl a ↦ elim (check-view input other more k) [
+        | inl b ↦ (a.0 ∙ sym b.0, refused-once once input text more (whole text a.1) (whole more b.1))
         | inr b ↦ absurd (both other more text b a.1)
       ]
       | inr a ↦ elim (check-view input other more k) [
-        inl b ↦ absurd (both status text more a b.1)
+        | inl b ↦ absurd (both status text more a b.1)
         | inr b ↦ fronts a b
       ]
     ]
@@ -308,12 +308,12 @@ answers-once laws None input status other text more h k =
     (a.0 ∙ sym b.0, a.1 ∙ sym b.1)
 answers-once laws (Some command) input status other text more h k =
     elim (some-view command input status text h) [
-      inl a ↦ elim (some-view command input other more k) [
-        inl b ↦ (a.0 ∙ sym b.0, a.1.1 ∙ sym b.1.1)
+      | inl a ↦ elim (some-view command input other more k) [
+        | inl b ↦ (a.0 ∙ sym b.0, a.1.1 ∙ sym b.1.1)
         | inr b ↦ absurd (too-long (length input) most_input a.1.0 b.0)
       ]
       | inr a ↦ elim (some-view command input other more k) [
-        inl b ↦ absurd (too-long (length input) most_input b.1.0 a.0)
+        | inl b ↦ absurd (too-long (length input) most_input b.1.0 a.0)
         | inr b ↦ work-once laws command input status other text more a.1 b.1
       ]
     ]

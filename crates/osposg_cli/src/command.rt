@@ -14,8 +14,8 @@ ghost use Rattle.std.specs.String.{string_bytes};
 
 use crate::answer::Answer;
 use crate::status::Status;
-use crate::work::work;
 use crate::words::parse;
+use crate::work::work;
 use game_model::law_seeds;
 use game_text::{law_games, law_not_refused, law_refused_once, law_whole_not_refused};
 use history_model::{law_controllers, law_splittings};

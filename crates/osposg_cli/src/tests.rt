@@ -50,7 +50,8 @@ const THREE_CERTIFICATE: [&str; 18] = [
 ];
 
 /// What `check` writes of it.
-const THREE_YES: &str = "yes\nlower 393216/65536 6.000000\nupper 393216/65536 6.000000\ntail 393216/65536 6.000000\n";
+const THREE_YES: &str =
+    "yes\nlower 393216/65536 6.000000\nupper 393216/65536 6.000000\ntail 393216/65536 6.000000\n";
 
 /// The bound that `floor` writes for five each time.
 const FIVE_BOUND: &str = "action 0\nlower 327680/65536\ntail 327680/65536\n";
@@ -217,8 +218,18 @@ fn a_certificate_that_stands_is_answered_with_its_bounds(rt: HostRuntime) -> Res
     let game = text_of(alloc, &THREE_HALVED)?;
     let input = joined(alloc, &game, &text_of(alloc, &THREE_CERTIFICATE)?)?;
     assert!(rt; answered(alloc, &["check"], input.as_bytes(), THREE_YES)? == (Status::Done, true));
-    assert!(rt; answered(alloc, &["check"], game.as_bytes(), "certificate refused: line 1 kind 10\n")? == (Status::CertRefused, true));
-    assert!(rt; answered(alloc, &["check"], b"", "game refused: line 1 kind 9\n")? == (Status::GameRefused, true));
+    assert!(rt;
+        answered(
+            alloc,
+            &["check"],
+            game.as_bytes(),
+            "certificate refused: line 1 kind 10\n"
+        )? == (Status::CertRefused, true)
+    );
+    assert!(rt;
+        answered(alloc, &["check"], b"", "game refused: line 1 kind 9\n")?
+            == (Status::GameRefused, true)
+    );
     Ok(())
 }
 
@@ -227,52 +238,128 @@ fn changed_certificates_are_refused_or_fail_first(rt: HostRuntime) -> Result<(),
     let alloc = rt.alloc();
     let game = text_of(alloc, &THREE_HALVED)?;
     let answers = [
-        (2, "outcome open", Status::CertRefused, "certificate refused: line 2 kind 2\n"),
+        (
+            2,
+            "outcome open",
+            Status::CertRefused,
+            "certificate refused: line 2 kind 2\n",
+        ),
         (2, "outcome trials", Status::No, "no outcome\n"),
         (4, "lower 393215/65536", Status::No, "no bound\n"),
-        (7, "sizes 1025 1", Status::CertRefused, "certificate refused: line 7 kind 9\n"),
-        (8, "start 1 0", Status::CertRefused, "certificate refused: line 8 kind 6\n"),
-        (10, "vector 393217", Status::CertRefused, "certificate refused: line 10 kind 4\n"),
-        (11, "mix 65535", Status::CertRefused, "certificate refused: line 11 kind 7\n"),
-        (12, "next 0 0 0 65535", Status::CertRefused, "certificate refused: line 13 kind 7\n"),
-        (14, "belief 2", Status::CertRefused, "certificate refused: line 14 kind 7\n"),
+        (
+            7,
+            "sizes 1025 1",
+            Status::CertRefused,
+            "certificate refused: line 7 kind 9\n",
+        ),
+        (
+            8,
+            "start 1 0",
+            Status::CertRefused,
+            "certificate refused: line 8 kind 6\n",
+        ),
+        (
+            10,
+            "vector 393217",
+            Status::CertRefused,
+            "certificate refused: line 10 kind 4\n",
+        ),
+        (
+            11,
+            "mix 65535",
+            Status::CertRefused,
+            "certificate refused: line 11 kind 7\n",
+        ),
+        (
+            12,
+            "next 0 0 0 65535",
+            Status::CertRefused,
+            "certificate refused: line 13 kind 7\n",
+        ),
+        (
+            14,
+            "belief 2",
+            Status::CertRefused,
+            "certificate refused: line 14 kind 7\n",
+        ),
         (15, "value 393215", Status::No, "no value 0 action 0\n"),
-        (18, "end\nend", Status::CertRefused, "certificate refused: line 19 kind 8\n"),
+        (
+            18,
+            "end\nend",
+            Status::CertRefused,
+            "certificate refused: line 19 kind 8\n",
+        ),
     ];
     for (number, line, status, text) in answers {
-        let input = joined(alloc, &game, &changed(alloc, &THREE_CERTIFICATE, number, line)?)?;
-        assert!(rt; answered(alloc, &["check"], input.as_bytes(), text)? == (status, true), "{line}");
+        let input = joined(
+            alloc,
+            &game,
+            &changed(alloc, &THREE_CERTIFICATE, number, line)?,
+        )?;
+        assert!(rt;
+            answered(alloc, &["check"], input.as_bytes(), text)? == (status, true),
+            "{line}"
+        );
     }
     let cut = joined(alloc, &game, &text_of(alloc, &THREE_CERTIFICATE[..17])?)?;
-    assert!(rt; answered(alloc, &["check"], cut.as_bytes(), "certificate refused: line 18 kind 10\n")? == (Status::CertRefused, true));
+    assert!(rt;
+        answered(
+            alloc,
+            &["check"],
+            cut.as_bytes(),
+            "certificate refused: line 18 kind 10\n"
+        )? == (Status::CertRefused, true)
+    );
     Ok(())
 }
 
 #[test]
 fn the_first_failing_node_and_split_are_named(rt: HostRuntime) -> Result<(), Fail> {
     let alloc = rt.alloc();
-    let node = "osposg 1\nsize 1 1 2 1\ntotal 1\ndiscount 1 2\nfirst 1\nstep 0 0 0 3\nout 0 0 1\nstep 0 0 1 4\nout 0 0 1\nend\n\
+    let node =
+        "osposg 1\nsize 1 1 2 1\ntotal 1\ndiscount 1 2\nfirst 1\nstep 0 0 0 3\nout 0 0 1\nstep 0 0 1 4\nout 0 0 1\nend\n\
         certificate 1\noutcome closed\ngap 1/100\nlower 393217/65536\nupper 393216/65536\ntail 524288/65536\nsizes 1 1\nstart 0 0\n\
         node 0\nvector 393217\nmix 65536\nnext 0 0 0 65536\npoint 0\nbelief 1\nvalue 393216\nmix 0 65536 0\nsplit 0 0 0 65536\nend\n";
-    assert!(rt; answered(alloc, &["check"], node.as_bytes(), "no node 0 state 0 action 0\n")? == (Status::No, true));
-    let split = "osposg 1\nsize 2 2 1 1\ntotal 1\ndiscount 0 1\nfirst 1 1\nstep 0 0 0 1\nout 0 0 1\nstep 0 1 0 0\nout 0 0 1\n\
+    assert!(rt;
+        answered(
+            alloc,
+            &["check"],
+            node.as_bytes(),
+            "no node 0 state 0 action 0\n"
+        )? == (Status::No, true)
+    );
+    let split =
+        "osposg 1\nsize 2 2 1 1\ntotal 1\ndiscount 0 1\nfirst 1 1\nstep 0 0 0 1\nout 0 0 1\nstep 0 1 0 0\nout 0 0 1\n\
         step 1 0 0 0\nout 0 1 1\nstep 1 1 0 1\nout 0 1 1\nend\n\
         certificate 1\noutcome closed\ngap 1/100\nlower 65536/131072\nupper 65536/131072\ntail 65536/65536\nsizes 1 3\nstart 0 2\n\
         node 0\nvector 65536 0\nmix 65536 0\nnext 0 0 0 65536\n\
         point 0\nbelief 1 0\nvalue 65536\nmix 0 65536\nmix 1 65536\nsplit 0 0 0 65536\nsplit 1 0 0 65536\n\
         point 1\nbelief 0 1\nvalue 65536\nmix 0 65536\nmix 1 65536\nsplit 0 0 1 65536\nsplit 1 0 1 65536\n\
         point 2\nbelief 1 1\nvalue 65536\nmix 0 65536\nmix 1 65536\nsplit 0 0 0 65535\nsplit 0 0 1 65536\nsplit 1 0 0 65536\nsplit 1 0 1 65536\nend\n";
-    assert!(rt; answered(alloc, &["check"], split.as_bytes(), "no split 2 action 0 seen 0 state 0\n")? == (Status::No, true));
+    assert!(rt;
+        answered(
+            alloc,
+            &["check"],
+            split.as_bytes(),
+            "no split 2 action 0 seen 0 state 0\n"
+        )? == (Status::No, true)
+    );
     Ok(())
 }
 
 #[test]
 fn a_full_set_of_nodes_stands(rt: HostRuntime) -> Result<(), Fail> {
     let alloc = rt.alloc();
-    let mut input = joined(alloc, &text_of(alloc, &THREE_HALVED)?, &text_of(alloc, &THREE_CERTIFICATE[..6])?)?;
+    let mut input = joined(
+        alloc,
+        &text_of(alloc, &THREE_HALVED)?,
+        &text_of(alloc, &THREE_CERTIFICATE[..6])?,
+    )?;
     input.push_str("sizes 1024 1\nstart 0 0\n")?;
     for i in 0..1024 {
-        input.push_str(&format!(in alloc; "node {i}\nvector 393216\nmix 65536\nnext 0 0 {i} 65536\n")?)?;
+        input.push_str(&format!(in alloc;
+            "node {i}\nvector 393216\nmix 65536\nnext 0 0 {i} 65536\n"
+        )?)?;
     }
     input.push_str(&text_of(alloc, &THREE_CERTIFICATE[12..])?)?;
     assert!(rt; answered(alloc, &["check"], input.as_bytes(), THREE_YES)? == (Status::Done, true));

@@ -13,7 +13,11 @@ use scaled_num::{Fraction, decimals_down, decimals_up, print};
 use std::alloc::{AllocError, Global};
 
 /// What `check` writes of a certificate that stands: `yes`, its bounds and its tail.
-pub fn yes_text(alloc: Global, game: &Game, certificate: &Certificate) -> Result<Vec<u8>, AllocError>
+pub fn yes_text(
+    alloc: Global,
+    game: &Game,
+    certificate: &Certificate,
+) -> Result<Vec<u8>, AllocError>
     requires { CertificateStands game.now (certificate_data certificate.now) }
     ensures { IfOk result (λ text. IsYesText (certificate_data certificate.now) text.items) }
 {
@@ -56,7 +60,9 @@ pub fn no_text(alloc: Global, reason: &Reason) -> Result<Vec<u8>, AllocError>
     let text = match *reason {
         Reason::Node { i, s, c } => format!(in alloc; "no node {i} state {s} action {c}\n")?,
         Reason::Corner { j } => format!(in alloc; "no corner {j}\n")?,
-        Reason::Split { j, a, o, s } => format!(in alloc; "no split {j} action {a} seen {o} state {s}\n")?,
+        Reason::Split { j, a, o, s } => format!(in alloc;
+            "no split {j} action {a} seen {o} state {s}\n"
+        )?,
         Reason::Value { j, a } => format!(in alloc; "no value {j} action {a}\n")?,
         Reason::Start => String::from_str(alloc, "no start\n")?,
         Reason::Bound => String::from_str(alloc, "no bound\n")?,

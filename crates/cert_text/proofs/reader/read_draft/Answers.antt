@@ -26,7 +26,7 @@ pub returns-in-End-clause-found : goal.returns-in-End-clause-found
 returns-in-End-clause-found c =
     let ok = passed c.next_entry.result c.numbered.result (c.loop-draft.line + 1) (c.in_ok-entry.entry, c.in_ok-entry.after) c.numbered.ensures c.in_ok-entry.was in
     let s = so_far_more c.args.start c.args.text.now (draft_data c.loop-draft.draft) (draft_data c.take.new.draft) c.loop-draft.line c.loop-draft.place c.advance.new.place c.loop-draft.rest.now c.in_ok-entry.after.now (entry_in c.in_ok-entry.entry)
-        c.loop-draft.invariant.read (gives_ok _ _ _ _ c.next_entry.ensures.gives ok) c.advance.ensures.after (IfOk-at_ok _ ok c.next_entry.ensures.after) c.in_ok-take.ensures.taken in
+    c.loop-draft.invariant.read (gives_ok _ _ _ _ c.next_entry.ensures.gives ok) c.advance.ensures.after (IfOk-at_ok _ ok c.next_entry.ensures.after) c.in_ok-take.ensures.taken in
     (s.entries, (s.read, sym (ap (λ (p : Place). p.latest) s.at) ∙ c.in-End.is), s.after, s.made, s.counted)
 
 pub loop-draft-preserved : goal.loop-draft-preserved
