@@ -1,19 +1,18 @@
 -- What may stand behind each line, and that a line says just such an entry.
-use Rattle.std.proofs.Common.{◌≡◌, ℕ, ◌+◌, ◌<◌, ◌≤◌, Bool, true, false, cond, ltb, List, [], ◌∷◌, length, map, Result, Ok, Err, ℤ, pos, refl, sym, ap, subst, ◌∙◌, arith, inl, inr, ◌⊎◌}
-use Rattle.std.specs.Prelude.{codes, nat_lt, ⊤}
+use Rattle.std.proofs.Common.{◌≡◌, ℕ, ◌<◌, ◌≤◌, Bool, true, false, cond, ltb, List, [], Ok, ℤ, refl, sym, ap, ◌∙◌, arith, inl, inr, ◌⊎◌}
+use Rattle.std.specs.Prelude.{codes, nat_lt}
 use Rattle.std.proofs.lemmas.Bool.{ltb-true}
 use Rattle.std.proofs.lemmas.Bool.Decides.{nat_tests}
 use Rattle.text_words.specs.Lines.{Line}
 use Rattle.game_model.specs.Branches.{Branch}
 use Rattle.alpha_set.specs.Nodes.{IsMix}
 use Rattle.controller.specs.Certificates.{Ending, FractionData}
-use Rattle.cert_text.specs.declared.fault.CertKind.{CertKind}
 use Rattle.cert_text.specs.declared.place.Latest.{Latest}
 use Rattle.cert_text.specs.declared.place.Latest.TheVariants as latest
 use Rattle.cert_text.specs.declared.place.Place.{Place}
 use Rattle.cert_text.specs.Forms.{begins}
 use Rattle.cert_text.specs.Entries.{Entry, Version, Outcome, Gap, Lower, Upper, Tail, Sizes, Start, Node, Vector, Mix, Next, Point, Belief, Value, Mixes, Split, End, entry_of, entry_after, in_node, in_point, in_mixes, next_said, node_said, point_said, mixes_said, split_said, end_said}
-use Rattle.cert_text.proofs.Tests.{NoneLacks}
+use Rattle.cert_text.proofs.Checks.{NoneLacks}
 use Rattle.cert_text.proofs.Said.{words_in, GapFits, BoundFits, SizesFit, VectorFits, NextFits, BeliefFits, ValueFits, SplitFits, version-ok, outcome-ok, gap-ok, lower-ok, upper-ok, tail-ok, sizes-ok, start-ok, node-ok, vector-ok, mix-ok, next-ok, point-ok, belief-ok, value-ok, mixes-ok, split-ok, end-ok}
 
 -- behind a node's `mix` or `next` line

@@ -1,19 +1,18 @@
 -- What a finished reading says.
-use Rattle.std.proofs.Common.{◌≡◌, ℕ, ◌+◌, ◌<◌, ◌≤◌, List, [], ◌∷◌, length, refl, sym, ap, subst, ◌∙◌, arith, inr}
-use Rattle.text_words.specs.Lines.{lines_of, after_lines}
+use Rattle.std.proofs.Common.{◌≡◌, ℕ, ◌+◌, ◌<◌, List, [], ◌∷◌, length, refl, sym, ap, subst, arith, inr}
+use Rattle.text_words.specs.Lines.{lines_of}
 use Rattle.game_model.specs.Game.{GameData, IsGame}
 use Rattle.controller.specs.Certificates.{CertificateData}
 use Rattle.cert_text.specs.declared.fault.CertKind.TheVariants as kinds
 use Rattle.cert_text.specs.declared.place.Place.{Place}
 use Rattle.cert_text.specs.Entries.{start_of}
-use Rattle.cert_text.specs.Made.{certificate_of}
 use Rattle.cert_text.specs.Reading.{RefusesCert}
 use Rattle.cert_text.specs.Answers.{IsDraftOf, IsTextFor}
 use Rattle.cert_text.specs.Draft.{AreFit}
 use Rattle.point_set.specs.Points.{PointData, PointFits}
 use Rattle.std.specs.List.{AllByRecursion}
 use Rattle.cert_text.proofs.Whole.{whole_accepted}
-use Rattle.cert_text.proofs.Lines.{lines_are_texts}
+use Rattle.cert_text.proofs.LawAccept.{lines_are_texts}
 
 pub whole_text : (g : GameData) (bytes : List ℕ) (start : Place) (k : CertificateData) (count : ℕ) (rest : List ℕ) → IsGame g → start ≡ start_of g → rest ≡ [] → IsDraftOf start bytes k count rest → IsTextFor g k bytes
 whole_text g bytes start k count rest game is none d =

@@ -1,5 +1,5 @@
 -- What a line says stays in the limits of its place.
-use Rattle.std.proofs.Common.{◌≡◌, ℕ, ◌<◌, ◌≤◌, List, [], ◌∷◌, length, get_or, Ok, ℤ, pos, refl, sym, subst, arith, inl, inr, ◌⊎◌}
+use Rattle.std.proofs.Common.{◌≡◌, List, Ok, ℤ, pos, sym, subst, arith, inl, inr}
 use Rattle.std.specs.Prelude.{All, ◌≤ℤ◌}
 use Rattle.std.specs.List.{AllByRecursion}
 use Rattle.std.proofs.lemmas.Int.{ints}
@@ -9,7 +9,7 @@ use Rattle.game_model.specs.Game.{IsWithin}
 use Rattle.cert_text.specs.declared.place.Latest.{Latest}
 use Rattle.cert_text.specs.declared.place.Latest.TheVariants as latest
 use Rattle.cert_text.specs.declared.place.Place.{Place}
-use Rattle.cert_text.specs.Entries.{Entry, entry_of}
+use Rattle.cert_text.specs.Entries.{Entry}
 use Rattle.cert_text.specs.View.{IsPlace, FitsPlace}
 use Rattle.cert_text.specs.Reading.{line_at}
 use Rattle.cert_text.proofs.Reading.{line_at-ok}

@@ -1,5 +1,5 @@
 -- The last of a list changed in its place.
-use Rattle.std.proofs.Common.{◌≡◌, ℕ, zero, suc, ◌+◌, ◌-◌, ◌<◌, List, [], ◌∷◌, ◌++◌, length, map, get_or, set, refl, sym, ap, ◌∙◌, arith}
+use Rattle.std.proofs.Common.{◌≡◌, ℕ, ◌-◌, ◌<◌, List, [], ◌∷◌, ◌++◌, length, map, get_or, set, refl, ap, ◌∙◌, arith}
 use Rattle.cert_text.specs.Made.{at_last}
 
 set_end : {A B : Type 0} (view : A → B) (f : B → B) (x : A) (xs : List A) (old new : A) → ((d : A) → old ≡ get_or (x ∷ xs) (length xs) d) → view new ≡ f (view old)

@@ -1,5 +1,5 @@
 -- One line more is read, or the reading stops at it.
-use Rattle.std.proofs.Common.{◌≡◌, ℕ, ◌+◌, List, [], ◌∷◌, ◌++◌, length, map, Result, Ok, Err, refl, sym, ap, ◌∙◌, append_assoc, append-nil, subst, arith, length-append}
+use Rattle.std.proofs.Common.{◌≡◌, ℕ, ◌+◌, List, [], ◌∷◌, ◌++◌, length, Result, Ok, Err, refl, sym, ap, ◌∙◌, append_assoc, subst}
 use Rattle.std.specs.Result.{MatchResult}
 use Rattle.text_words.specs.Lines.{Line}
 use Rattle.cert_text.specs.declared.fault.CertKind.{CertKind}
@@ -11,7 +11,7 @@ use Rattle.cert_text.specs.Fault.{at_line, Fails, Gives}
 use Rattle.cert_text.specs.Forms.{◌>>=◌}
 use Rattle.cert_text.specs.Answers.{IsFaultOf}
 use Rattle.cert_text.specs.Entries.{Entry, entry_of, place_after, behind}
-use Rattle.cert_text.specs.Reading.{line_at, Say, Reads, Refuses, IsUnfinished}
+use Rattle.cert_text.specs.Reading.{line_at, Say, Reads, IsUnfinished}
 
 pub reads_none : (place : Place) (lines : List Line) → Reads place lines [] lines
 reads_none place lines = ([], refl, tt)

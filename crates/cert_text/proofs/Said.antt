@@ -1,6 +1,6 @@
 -- What a line says, and the words of a line that says it.
-use Rattle.std.proofs.Common.{◌≡◌, ℕ, zero, suc, ◌+◌, ◌*◌, ◌^◌, ◌<◌, ◌≤◌, Bool, true, false, cond, ◌&&◌, eqb, ltb, List, [], ◌∷◌, ◌++◌, length, map, take, drop, Option, Some, None, Result, Ok, Err, ℤ, pos, negsuc, refl, sym, ap, subst, ◌∙◌, arith, inl, inr, ◌⊎◌}
-use Rattle.std.specs.Prelude.{◌≤ℤ◌, ◌<ℤ◌, ◌+ℤ◌, ◌*ℤ◌, neg_ℤ, unsigned_abs, codes, ◌==◌, slice_index_or, ⊤}
+use Rattle.std.proofs.Common.{◌≡◌, ℕ, ◌+◌, ◌^◌, ◌<◌, ◌≤◌, Bool, true, false, cond, ◌&&◌, List, [], ◌∷◌, ◌++◌, length, map, take, drop, Option, Some, None, Result, Ok, Err, ℤ, pos, refl, sym, ap, subst, ◌∙◌, arith}
+use Rattle.std.specs.Prelude.{◌≤ℤ◌, ◌*ℤ◌, neg_ℤ, unsigned_abs, codes, ◌==◌, slice_index_or}
 use Rattle.std.specs.List.{AllByRecursion, slice_split, join_with_byte}
 use Rattle.std.specs.Option.{ok_or}
 use Rattle.std.specs.Str.{bytes_eq}
@@ -21,14 +21,12 @@ use Rattle.point_set.specs.Points.{most_share}
 use Rattle.controller.specs.Certificates.{Closed, Ending, FractionData, Full as FullRun, Trials, most_members}
 use Rattle.cert_text.specs.declared.fault.CertKind.{CertKind}
 use Rattle.cert_text.specs.declared.fault.CertKind.TheVariants as kinds
-use Rattle.cert_text.specs.declared.place.Latest.{Latest}
-use Rattle.cert_text.specs.declared.place.Latest.TheVariants as latest
 use Rattle.cert_text.specs.declared.place.Limits.{Limits}
 use Rattle.cert_text.specs.declared.place.Place.{Place}
 use Rattle.cert_text.specs.Text.{outcome_word}
-use Rattle.cert_text.specs.Forms.{◌>>=◌, number_at, is_within, are_words, version_line, numbers_said, numbers_after, word_after, begins, outcome_of, fraction_from, fraction_of, limited, below_limit, at_least, each_within, is_due, member_below, few, later_branch, sums_to_mix, most_belief, belief_total, none_lacks, fits_lack}
+use Rattle.cert_text.specs.Forms.{number_at, are_words, version_line, numbers_said, numbers_after, word_after, outcome_of, fraction_from, fraction_of, limited, below_limit, at_least, each_within, is_due, member_below, few, later_branch, sums_to_mix, most_belief, belief_total, none_lacks, fits_lack}
 use Rattle.cert_text.specs.Entries.{Entry, Version, Outcome, Gap, Lower, Upper, Tail, Sizes, Start, Node, Vector, Mix, Next, Point, Belief, Value, Mixes, Split, End, version_said, outcome_said, gap_said, bound_said, lower_said, upper_said, tail_said, sizes_said, start_said, node_said, vector_said, mix_said, branch_said, place_at, next_said, point_said, belief_said, value_within, value_said, mixes_said, split_said, end_said}
-use Rattle.cert_text.proofs.Tests.{bind_ok, cond_ok, cond_then, and_true, limited-ok, below_limit-ok, at_least-ok, each_within-ok, is_due-ok, member_below-ok, few-ok, IsLater, later_branch-ok, sums_to_mix-ok, belief_total-ok, NoneLacks, none_lacks-ok, fits_lack-ok}
+use Rattle.cert_text.proofs.Checks.{bind_ok, cond_ok, cond_then, and_true, limited-ok, below_limit-ok, at_least-ok, each_within-ok, is_due-ok, member_below-ok, few-ok, IsLater, later_branch-ok, sums_to_mix-ok, belief_total-ok, NoneLacks, none_lacks-ok, fits_lack-ok}
 
 -- the words of the line that says an entry
 

@@ -1,7 +1,7 @@
 -- What is read up to a line.
 use Rattle.std.proofs.Common.{◌≡◌, ℕ, ◌+◌, ◌++◌, ◌∷◌, [], List, length, Ok, refl, sym, ap, subst, ◌∙◌, arith, length-append}
 use Rattle.std.specs.List.{after_first}
-use Rattle.text_words.specs.Lines.{Line, lines_of, after_lines}
+use Rattle.text_words.specs.Lines.{lines_of, after_lines}
 use Rattle.text_words.proofs.Whole.{is_feed, after_lines-more}
 use Rattle.controller.specs.Certificates.{CertificateData}
 use Rattle.cert_text.specs.declared.place.Limits.{Limits}

@@ -1,10 +1,9 @@
 -- The place before the first line, and a text that ends with its `end` line.
-use Rattle.std.proofs.Common.{◌≡◌, ℕ, ◌+◌, ◌^◌, ◌<◌, ◌≤◌, List, [], ◌∷◌, length, map, ℤ, pos, refl, sym, ap, subst, ◌∙◌, arith}
+use Rattle.std.proofs.Common.{◌≡◌, ℕ, List, [], ◌∷◌, length, refl, sym, ap, subst, ◌∙◌, arith}
 use Rattle.std.proofs.lemmas.Int.{ints}
 use Rattle.text_words.specs.Lines.{Line, lines_of, after_lines}
-use Rattle.game_model.specs.Game.{GameData, IsGame, span}
+use Rattle.game_model.specs.Game.{GameData, IsGame}
 use Rattle.game_model.proofs.Worth.{span-small}
-use Rattle.cert_text.specs.declared.place.Place.{Place}
 use Rattle.cert_text.specs.Entries.{Entry, limits_of, start_of}
 use Rattle.cert_text.specs.Reading.{Accepts, AcceptsCert}
 use Rattle.cert_text.specs.View.{AreLimits}

@@ -3,7 +3,6 @@ use Rattle.std.specs.Prelude.{◌≡◌, ℕ, List, length, ⊤}
 use Rattle.text_words.specs.Lines.{Line, lines_of, after_lines}
 use Rattle.game_model.specs.Game.{GameData}
 use Rattle.controller.specs.Certificates.{CertificateData, CertificateFits}
-use Rattle.cert_text.specs.declared.fault.CertKind.{CertKind}
 use Rattle.cert_text.specs.declared.fault.CertFault.{CertFault}
 use Rattle.cert_text.specs.declared.fault.CertFault.TheVariants.{Line as LineOf, OutOfMemory}
 use Rattle.cert_text.specs.declared.place.Place.{Place}

@@ -2,7 +2,6 @@
 use Rattle.std.specs.Prelude.{◌≡◌, map}
 use Rattle.belief.specs.Mixes.{AreMixes}
 use Rattle.game_model.specs.Game.{AreCoprime, GameData, IsBelief}
-use Rattle.game_model.specs.Branches.{Branch as BranchData}
 use Rattle.alpha_set.specs.Members.{node_data}
 use Rattle.alpha_set.specs.declared.nodes.Step.{Step}
 use Rattle.point_set.specs.Members.{branch_of}

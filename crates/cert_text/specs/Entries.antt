@@ -1,5 +1,5 @@
 -- What a line says at the place behind those before it.
-use Rattle.std.specs.Prelude.{◌≡◌, ℕ, ◌+◌, ◌-◌, ◌*◌, ◌/◌, ◌^◌, nat_lt, List, [], ◌∷◌, map, replicate, take, drop, Result, Ok, Err, ℤ, pos, neg_ℤ, ◌-ℤ◌, ◌*ℤ◌, if◌then◌else◌, slice_index_or, slice_set, codes}
+use Rattle.std.specs.Prelude.{ℕ, ◌+◌, ◌*◌, ◌/◌, ◌^◌, nat_lt, List, [], ◌∷◌, map, replicate, take, drop, Result, Ok, Err, ℤ, pos, neg_ℤ, ◌-ℤ◌, ◌*ℤ◌, if◌then◌else◌, slice_index_or, slice_set, codes}
 use Rattle.scaled_num.specs.Sums.{below, sum_of}
 use Rattle.text_words.specs.Lines.{Line}
 use Rattle.game_model.specs.Branches.{Branch, mix_total}

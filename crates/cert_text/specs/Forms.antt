@@ -1,5 +1,5 @@
 -- What the words and numbers of one line say, or the least kind of fault.
-use Rattle.std.specs.Prelude.{◌≡◌, ℕ, zero, suc, ◌+◌, ◌*◌, ◌%◌, ◌^◌, ◌==◌, nat_lt, ◌&&◌, ◌||◌, Bool, true, false, List, [], ◌∷◌, length, take, Option, Some, None, Result, Ok, Err, ℤ, pos, int_lt, int_le, unsigned_abs, if◌then◌else◌, slice_index_or, codes}
+use Rattle.std.specs.Prelude.{ℕ, zero, suc, ◌%◌, ◌==◌, nat_lt, ◌&&◌, ◌||◌, Bool, false, List, [], ◌∷◌, length, Result, Ok, Err, ℤ, pos, int_lt, int_le, unsigned_abs, if◌then◌else◌, slice_index_or, codes}
 use Rattle.std.specs.List.{list_all, slice_split}
 use Rattle.std.specs.Option.{ok_or}
 use Rattle.std.specs.Str.{bytes_eq}

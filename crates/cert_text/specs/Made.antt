@@ -1,5 +1,5 @@
 -- The certificate that entries say.
-use Rattle.std.specs.Prelude.{ℕ, ℤ, pos, List, [], ◌∷◌, ◌++◌}
+use Rattle.std.specs.Prelude.{ℤ, pos, List, [], ◌∷◌, ◌++◌}
 use Rattle.game_model.specs.Game.{GameData}
 use Rattle.cert_text.specs.declared.place.Limits.{Limits}
 use Rattle.alpha_set.specs.Nodes.{NodeData, no_node}

@@ -1,5 +1,5 @@
 -- What the reader's own values say, and the limits that they keep.
-use Rattle.std.specs.Prelude.{◌≡◌, ◌≢◌, ℕ, ◌+◌, ◌<◌, ◌≤◌, ◌^◌, length, All, ℤ, pos, ◌≤ℤ◌, slice_index_or}
+use Rattle.std.specs.Prelude.{◌<◌, ◌≤◌, ◌^◌, length, All, ℤ, pos, ◌≤ℤ◌, slice_index_or}
 use Rattle.scaled_num.specs.Sums.{sum_of}
 use Rattle.game_model.specs.Branches.{Branch as BranchData}
 use Rattle.game_model.specs.Game.{IsWithin}

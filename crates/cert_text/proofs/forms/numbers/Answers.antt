@@ -1,4 +1,4 @@
-use Rattle.std.proofs.Common.{◌≡◌, ◌+◌, ◌++◌, ◌∷◌, [], List, Option, ℤ, Err, sym, ap, ◌∙◌, arith, rules}
+use Rattle.std.proofs.Common.{List, Option, ℤ, Err, sym, ap, ◌∙◌, arith, rules}
 use Rattle.std.specs.Option.{ok_or}
 use mir.Syntax.{w128}
 use mir.Val.{SFits}
@@ -6,7 +6,7 @@ use Rattle.std.proofs.lemmas.Int.{to_z-of_z}
 use Rattle.std.proofs.lemmas.Result.{err_from_is_err_and}
 use Rattle.cert_text.specs.declared.fault.CertKind.TheVariants.{Number}
 use Rattle.cert_text.specs.Forms.{numbers_said}
-use Rattle.cert_text.proofs.Words.{texts, after, after_more, after_stops, after_all, number_kind}
+use Rattle.cert_text.proofs.Words.{after_more, after_stops, after_all, number_kind}
 use Rattle.cert_text.proofs.forms.numbers.Goals as goal
 
 pub returns-in_err-number-clause-gives : goal.returns-in_err-number-clause-gives

@@ -1,14 +1,11 @@
-use Rattle.std.proofs.Common.{◌≡◌, ◌≤◌, ℕ, List, ℤ, take, length, get_or, subst, sym, ap, arith, rules, ◌∙◌}
+use Rattle.std.proofs.Common.{◌≡◌, ℕ, ℤ, get_or, subst, ap, arith, rules, ◌∙◌}
 use mir.Syntax.{w128}
 use mir.Val.{SFits}
 use Rattle.std.specs.Int.{IsGcd}
 use Rattle.std.proofs.lemmas.Int.{to_z-of_z}
 use Rattle.std.specs.Prelude.{pos, unsigned_abs}
-use Rattle.std.specs.List.{AllByRecursion}
-use Rattle.std.proofs.lemmas.List.{take_all}
-use Rattle.game_model.proofs.Divisor.{DivisorSoFar, next-divisor}
-use Rattle.cert_text.specs.Forms.{common_divisor}
-use Rattle.cert_text.proofs.Divisor.{IsGreatest, common_is, greatest_same, so_far_all}
+use Rattle.game_model.proofs.Divisor.{next-divisor}
+use Rattle.cert_text.proofs.Divisor.{common_is, greatest_same, so_far_all}
 use Rattle.cert_text.proofs.guards.common_divisor.Goals as goal
 
 pub loop-number-preserved : goal.loop-number-preserved

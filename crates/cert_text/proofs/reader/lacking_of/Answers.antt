@@ -1,4 +1,4 @@
-use Rattle.std.proofs.Common.{◌≡◌, ◌+◌, ◌/◌, ◌<◌, ℕ, ℤ, pos, arith, length, refl, replicate}
+use Rattle.std.proofs.Common.{◌/◌, pos, arith, refl, replicate}
 use Rattle.std.specs.Prelude.{slice_index_or}
 use Rattle.cert_text.specs.Entries.{lacking_of}
 use Rattle.cert_text.proofs.Limits.{pointwise_below, each_small}

@@ -1,4 +1,4 @@
-use Rattle.std.proofs.Common.{◌≡◌, ◌+◌, ◌≤◌, length}
+use Rattle.std.proofs.Common.{◌+◌, ◌≤◌, length}
 use Rattle.cert_text.specs.Draft.{draft_data}
 use Rattle.cert_text.specs.View.{IsPlace}
 use Rattle.cert_text.specs.Reading.{IsUnfinished}

@@ -1,4 +1,4 @@
-use Rattle.std.proofs.Common.{◌≡◌, [], length, rules}
+use Rattle.std.proofs.Common.{◌≡◌, length, rules}
 use Rattle.cert_text.specs.Draft.{draft_data}
 use Rattle.cert_text.proofs.Whole.{nothing_left}
 use Rattle.cert_text.proofs.Final.{whole_text}
