@@ -2,6 +2,9 @@
 # Builds the proved program crates/simplex_bench and lets it measure.
 set -e
 cd "$(dirname "${BASH_SOURCE[0]}")/../../crates/simplex_bench"
-rt run -- measure >/tmp/simplex-bench.$$ 2>&1 || { cat /tmp/simplex-bench.$$; rm -f /tmp/simplex-bench.$$; exit 1; }
-grep 'ns an entry' /tmp/simplex-bench.$$
-rm -f /tmp/simplex-bench.$$
+if output=$(rt run -- measure 2>&1); then
+    grep 'ns an entry' <<<"$output"
+else
+    echo "$output"
+    exit 1
+fi

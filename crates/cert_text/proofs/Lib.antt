@@ -15,11 +15,10 @@ pub mod LawNodes
 pub mod LawPoints
 pub mod LawRead
 pub mod Reading
-pub mod Checks
-pub mod Said
-pub mod Due
 pub mod Fits
 pub mod Whole
 pub mod Last
 pub mod SoFar
 pub mod Final
+pub mod Refusals
+pub mod Grown

@@ -9,6 +9,9 @@ mod head;
 mod laws;
 mod members;
 mod place;
+#[cfg(test)]
+mod print_tests;
+mod printing;
 mod reader;
 #[cfg(test)]
 mod tests;
@@ -16,4 +19,5 @@ mod texts;
 
 pub use fault::{CertFault, CertKind};
 pub use laws::{law_accepted, law_not_refused, law_one, law_read, law_refused_once};
+pub use printing::print;
 pub use texts::read;

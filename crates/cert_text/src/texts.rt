@@ -1,5 +1,5 @@
 ghost use Rattle.std.specs.Prelude.{◌≡◌, ◌^◌, ◌≤◌, length, map, IfOk, IfErr};
-ghost use Rattle.cert_text.specs.Answers.{IsRefused, IsTextFor};
+ghost use Rattle.cert_text.specs.Answers.{IsNoText, IsRefused, IsTextFor};
 ghost use Rattle.cert_text.specs.Entries.{limits_of, start_of};
 ghost use Rattle.std.specs.List.{AllByRecursion};
 ghost use Rattle.alpha_set.specs.Members.{node_data};
@@ -163,7 +163,9 @@ pub fn read(alloc: Global, game: &Game, bytes: &[u8]) -> Result<Certificate, Cer
     requires { length bytes.now ≤ 2 ^ 27 }
     ensures text { IfOk result (λ certificate. IsTextFor game.now (certificate_data certificate) bytes.now) }
     ensures refused { IfErr result (IsRefused game.now bytes.now) }
+    ensures no_text { IfErr result (IsNoText game.now bytes.now) }
 {
+    law_game(game);
     let draft = read_whole(alloc, game, bytes)?;
     finish(alloc, game, draft)
 }

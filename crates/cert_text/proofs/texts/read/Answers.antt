@@ -1,0 +1,8 @@
+use Rattle.std.proofs.lemmas.Result.{err_from_is_err_and}
+use Rattle.cert_text.proofs.Refusals.{no_text}
+use Rattle.cert_text.proofs.texts.read.Goals as goal
+
+pub returns-in_err-draft-clause-no_text : goal.returns-in_err-draft-clause-no_text
+returns-in_err-draft-clause-no_text c =
+    let p = err_from_is_err_and c.from_residual.result c.from_residual.ensures.1 in
+    rw (p.1, p.2) (no_text c.args.game.now c.args.bytes.now _ c.law_game.ensures.accepted c.in_err-draft.ensures.refused)
