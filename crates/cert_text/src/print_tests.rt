@@ -1,23 +1,6 @@
+use crate::tests::three_halved;
 use crate::{print, read};
-use game_model::{Game, GameBuilder, GameFault, Shape};
-use std::alloc::Global;
 use std::test::Fail;
-
-/// One state, one action each, a reward of three, discount one half.
-fn three_halved(alloc: Global) -> Result<Game, GameFault> {
-    let shape = Shape {
-        states: 1,
-        own_actions: 1,
-        informed_actions: 1,
-        observations: 1,
-        row_total: 1,
-        discount: (1, 2),
-    };
-    let mut builder = GameBuilder::new(alloc, shape, &[1])?;
-    builder.step(3)?;
-    builder.landing(0, 0, 1)?;
-    builder.finish()
-}
 
 #[test]
 fn a_certificate_is_printed_as_the_text_that_it_was_read_from(rt: HostRuntime) -> Result<(), Fail> {

@@ -6,7 +6,7 @@ use std::alloc::Global;
 use std::test::Fail;
 
 /// One state, one action each, a reward of three, discount one half.
-fn three_halved(alloc: Global) -> Result<Game, GameFault> {
+pub(crate) fn three_halved(alloc: Global) -> Result<Game, GameFault> {
     let shape = Shape {
         states: 1,
         own_actions: 1,
