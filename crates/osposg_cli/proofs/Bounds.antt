@@ -1,10 +1,10 @@
 -- The bounds of a certificate that stands are small enough for their decimal places.
-use Rattle.std.proofs.Common.{◌≡◌, ℕ, ◌^◌, ◌≤◌, subst, sym, arith}
-use Rattle.std.specs.Prelude.{ℤ, pos, unsigned_abs}
+use Rattle.std.proofs.Common.{◌^◌, ◌≤◌, subst, sym, arith}
+use Rattle.std.specs.Prelude.{ℤ, unsigned_abs}
 use Rattle.cert_check.proofs.Gap.{start-small, start-value-small}
 use Rattle.controller.proofs.Places.{rules}
 use Rattle.controller.specs.Certificates.{CertificateData, CertificateStands}
-use Rattle.game_model.specs.Game.{GameData, IsGame, span}
+use Rattle.game_model.specs.Game.{GameData, IsGame}
 use Rattle.game_model.proofs.Worth.{span-small}
 
 pub lower-small : (g : GameData) (k : CertificateData) → IsGame g → CertificateStands g k → unsigned_abs k.lower.num ≤ 2 ^ 104

@@ -1,8 +1,7 @@
 -- The first action of the greatest product, among the first ones.
-use Rattle.std.proofs.Common.{◌≡◌, ℕ, ◌+◌, ◌<◌, ◌≤◌, Bool, true, false, cond, ◌==◌, refl, sym, ap, arith, subst, ◌∙◌, inl, inr, eq-eqb, ne_eqb, ◌⊎◌}
+use Rattle.std.proofs.Common.{◌≡◌, ℕ, ◌+◌, ◌<◌, Bool, cond, ◌==◌, refl, sym, ap, arith, subst, inl, inr, eq-eqb, ne_eqb}
 use Rattle.std.specs.Prelude.{ℤ, ◌≤ℤ◌, ◌<ℤ◌}
 use Rattle.std.proofs.lemmas.Int.{ints}
-use Rattle.std.proofs.lemmas.Bool.Decides.{eqb_tells}
 use Rattle.game_model.specs.Game.{GameData, first_at, numbers, span}
 use Rattle.game_model.specs.Numbers.{product}
 use Rattle.game_model.specs.Seeds.{IsSeed}

@@ -1,11 +1,10 @@
 -- What is due, from what was read and answered.
-use Rattle.std.proofs.Common.{◌≡◌, ◌⊎◌, ℕ, ◌+◌, ◌<◌, ◌≤◌, List, [], ◌∷◌, ◌++◌, length, Option, Some, None, Result, Ok, Err, refl, sym, ap, ◌∙◌, subst, arith, inl, inr, lt_irrefl}
+use Rattle.std.proofs.Common.{◌≡◌, ◌⊎◌, ℕ, ◌<◌, ◌≤◌, List, [], length, Option, Some, None, Result, Ok, Err, refl, sym, ap, ◌∙◌, subst, arith, inl, inr, lt_irrefl}
 use Rattle.std.proofs.lemmas.Option.{none-some}
 use Rattle.std.proofs.lemmas.List.{append-nil}
 use Rattle.std.specs.Result.{MatchResult, IfOk, IsErrAnd}
 use Rattle.std.specs.Prelude.{ℤ, IfSome, ◌↔◌, ⊤}
-use Rattle.hsvi_io.specs.Bytes.{GaveAll, GaveFront, GaveTooMany, Wrote, WroteFront}
-use Rattle.hsvi_io.specs.Causes.{Rose}
+use Rattle.hsvi_io.specs.Bytes.{GaveAll, GaveTooMany, Wrote}
 use Rattle.cert_text.specs.Answers.{IsTextFor}
 use Rattle.controller.proofs.Places.{rules}
 use Rattle.controller.specs.Certificates.{CertificateData, CertificateStands, Closed, Ending, Full, IsWithinGap, OutcomeHolds, Trials}

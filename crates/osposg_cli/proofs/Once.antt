@@ -1,9 +1,8 @@
 -- An input has one answer.
-use Rattle.std.proofs.Common.{◌≡◌, ◌⊎◌, ℕ, ◌+◌, ◌*◌, ◌<◌, ◌≤◌, List, [], ◌∷◌, length, Option, Some, None, refl, sym, ap, ◌∙◌, subst, arith, inl, inr, lt_irrefl}
-use Rattle.std.specs.Prelude.{ℤ, ◌≤ℤ◌, ◌<ℤ◌, ◌≢◌}
+use Rattle.std.proofs.Common.{◌≡◌, ◌⊎◌, ℕ, ◌<◌, ◌≤◌, List, [], length, Some, None, refl, sym, ap, ◌∙◌, subst, arith, inl, inr, lt_irrefl}
+use Rattle.std.specs.Prelude.{ℤ, ◌≤ℤ◌, ◌<ℤ◌}
 use Rattle.std.proofs.lemmas.Int.{ints}
 use Rattle.std.proofs.lemmas.Bool.{cases_order}
-use Rattle.scaled_num.specs.Sums.{below}
 use Rattle.scaled_num.proofs.Sums.{total-below}
 use Rattle.std.specs.Prelude.{pos, ◌*ℤ◌}
 use Rattle.game_model.specs.Game.{GameData, IsGame, first_at, numbers, span}

@@ -2,7 +2,7 @@
 use Rattle.std.proofs.Common.{◌≡◌, ℕ, List, ap, sym, ◌∙◌, arith, subst}
 use Rattle.std.specs.Prelude.{ℤ, pos, ◌+ℤ◌, ◌*ℤ◌, ◌≤ℤ◌, ◌<ℤ◌, unsigned_abs}
 use Rattle.std.proofs.lemmas.Int.{ints}
-use Rattle.scaled_num.specs.Printed.{IsDownText, IsUpText, million, six_places}
+use Rattle.scaled_num.specs.Printed.{IsDownText, IsUpText, six_places}
 use Rattle.scaled_num.proofs.Products.{lt-mulℤ_cancel, mul-addℤ, mulℤ_comm, sums}
 
 -- x * den is below (y + 1) * den, so x is at most y

@@ -1,29 +1,44 @@
-/// How a run ended. The value is the program's exit code.
+ghost use Rattle.osposg_cli.specs.Codes.{code_of};
+ghost use Rattle.std.specs.Prelude.{◌≡◌};
+
+/// How a run ended.
 #[derive(Clone, Copy, Debug, PartialEq, Eq)]
 pub enum Status {
     /// The answer was written.
-    Done = 0,
+    Done,
     /// The certificate does not stand; the first place that fails was written.
-    No = 1,
+    No,
     /// The game text is refused; the line and the kind were written.
-    GameRefused = 3,
+    GameRefused,
     /// The certificate text is refused; the line and the kind were written.
-    CertRefused = 4,
+    CertRefused,
     /// The words name no command.
-    WordsRefused = 5,
+    WordsRefused,
     /// The source failed; nothing was written.
-    ReadFault = 6,
+    ReadFault,
     /// The sink failed; a front of the text was written.
-    WriteFault = 7,
+    WriteFault,
     /// No memory was to be had; nothing was written.
-    OutOfMemory = 8,
+    OutOfMemory,
     /// The input has more than 2^26 bytes; nothing was written.
-    TooLong = 9,
+    TooLong,
 }
 
 impl Status {
     /// The program's exit code.
-    pub fn code(self) -> u8 {
-        self as u8
+    pub fn code(self) -> u8
+        ensures { result ≡ code_of self }
+    {
+        match self {
+            Status::Done => 0,
+            Status::No => 1,
+            Status::GameRefused => 3,
+            Status::CertRefused => 4,
+            Status::WordsRefused => 5,
+            Status::ReadFault => 6,
+            Status::WriteFault => 7,
+            Status::OutOfMemory => 8,
+            Status::TooLong => 9,
+        }
     }
 }

@@ -1,4 +1,4 @@
-use Rattle.std.proofs.Common.{rules, ◌≡◌, ℕ, List, subst, sym, ◌∙◌}
+use Rattle.std.proofs.Common.{rules, ℕ, List, subst, sym, ◌∙◌}
 use Rattle.std.proofs.lemmas.Result.{IfOk-weaker}
 use Rattle.osposg_cli.specs.Answer.{IsWork}
 use Rattle.osposg_cli.proofs.Due.{due_refused, due_work, kept}

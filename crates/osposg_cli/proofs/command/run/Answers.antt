@@ -1,4 +1,4 @@
-use Rattle.std.proofs.Common.{rules, ◌≡◌, subst, sym}
+use Rattle.std.proofs.Common.{rules}
 use Rattle.osposg_cli.proofs.Due.{complete_early, complete_whole, earns_whole, ends_whole, proves_whole, read_end}
 use Rattle.osposg_cli.proofs.command.run.Goals as goal
 

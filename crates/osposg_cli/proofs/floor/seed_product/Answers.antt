@@ -1,7 +1,5 @@
-use Rattle.std.proofs.Common.{rules, ◌≡◌, ℕ, List, length, sym, ◌∙◌, subst, ap, take}
-use Rattle.std.specs.Prelude.{ℤ, pos, slice_index_or}
-use Rattle.scaled_num.specs.Sums.{below, total}
-use Rattle.osposg_cli.proofs.Products.{term}
+use Rattle.std.proofs.Common.{rules, ℕ, ◌∙◌}
+use Rattle.std.specs.Prelude.{pos, slice_index_or}
 use Rattle.osposg_cli.proofs.Seeded.{entries-small, product-is}
 use Rattle.osposg_cli.proofs.floor.seed_product.Goals as goal
 
