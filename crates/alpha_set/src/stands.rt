@@ -7,10 +7,7 @@ ghost use Rattle.std.specs.Prelude.{IfSome, IsNone, pos, slice_index_or, unsigne
 
 use crate::nodes::Node;
 use crate::tables::{TABLE, fill, later};
-use game_model::{Game, UNITS, law_game};
-
-/// The total of every mix.
-const MIX_TOTAL: i128 = 65_536;
+use game_model::{Game, MIX_TOTAL, UNITS, law_game};
 
 /// The first state and informed action at which the node rule fails for a node among others.
 pub fn first_fault(game: &Game, nodes: &[Node], node: &Node) -> Option<(u32, u32)>

@@ -1,3 +1,4 @@
 pub mod Mixes
 pub mod Beliefs
 pub mod Masses
+pub mod Reduced

@@ -1,9 +1,9 @@
 -- Mixes of the informed player, one for each state, and the mass that a belief brings to the next states.
-use Rattle.std.specs.Prelude.{ℕ, ℤ, pos, List, length, ◌≡◌, ◌<◌, ◌*◌, ◌+◌, slice_index_or, sum_by}
+use Rattle.std.specs.Prelude.{ℕ, ℤ, pos, List, flat_map, length, replicate, slice_set, ◌≡◌, ◌<◌, ◌*◌, ◌+◌, slice_index_or, sum_by}
 use Rattle.std.specs.List.{AllByRecursion}
 use Rattle.scaled_num.specs.Sums.{below, total}
 use Rattle.game_model.specs.Branches.{mix_total}
-use Rattle.game_model.specs.Game.{IsWithin}
+use Rattle.game_model.specs.Game.{GameData, IsWithin}
 use Rattle.game_model.specs.Numbers.{Numbers}
 
 -- the weights of all states in order, each state's by informed action
@@ -25,3 +25,11 @@ pub record AreMixes (mixes : MixesData) : Type 0 where
 abbrev pub mass_of : Numbers → (ℕ → ℕ) → (ℕ → ℕ → ℕ) → ℕ → ℕ → ℕ → ℕ
 mass_of g belief mixes a o t =
     sum_by (λ s. sum_by (λ c. belief s * mixes s c * g.weight s a c o t) (below g.informed_actions)) (below g.states)
+
+-- the informed player surely plays one action in each state: all weight on it
+abbrev pub pure_mixes : GameData → List ℕ → MixesData
+pure_mixes g choice = record {
+  states = g.shape.states;
+  actions = g.shape.informed_actions;
+  weights = flat_map (λ chosen. slice_set (replicate g.shape.informed_actions (pos 0)) chosen (pos mix_total)) choice;
+}

@@ -1,8 +1,9 @@
 ghost use Rattle.belief.specs.Beliefs.{AreKept, mixes_for};
-ghost use Rattle.belief.specs.Mixes.{AreMixes, mix_at};
+ghost use Rattle.belief.specs.Mixes.{AreMixes, mix_at, pure_mixes};
 ghost use Rattle.game_model.specs.Branches.{mix_total};
 ghost use Rattle.game_model.specs.Game.{IsWithin};
-ghost use Rattle.std.specs.Prelude.{IfOk, pos, ◌<◌, ◌≡◌};
+ghost use Rattle.std.specs.List.{AllByRecursion};
+ghost use Rattle.std.specs.Prelude.{IfOk, length, pos, ◌<◌, ◌≡◌};
 
 use game_model::{Game, law_game};
 use std::alloc::{AllocError, Global};
@@ -45,6 +46,19 @@ impl Mixes {
             actions: game.informed_actions(),
             weights: kept,
         })
+    }
+
+    /// The mixes that surely play action `choice[s]` in each state `s`.
+    ///
+    /// # Errors
+    ///
+    /// Where no memory is to be had.
+    pub fn pure(alloc: Global, game: &Game, choice: &[u32]) -> Result<Mixes, AllocError>
+        requires states { length choice.now ≡ game.now.shape.states }
+        requires actions { AllByRecursion (λ chosen. chosen < game.now.shape.informed_actions) choice.now }
+        ensures { IfOk result (λ mixes. mixes ≡ pure_mixes game.now choice.now) }
+    {
+        Err(AllocError)
     }
 
     /// The number of states.

@@ -4,13 +4,8 @@ ghost use Rattle.cert_text.specs.Forms.{is_within, limited, below_limit, at_leas
 
 use crate::fault::CertKind;
 use crate::place::Latest;
+use game_model::{MIX_TOTAL, MOST_BELIEF};
 use scaled_num::gcd;
-
-/// The total of every mix.
-pub const MIX_TOTAL: i128 = 65_536;
-
-/// The greatest total of a belief, and the greatest weight in one.
-pub const MOST_BELIEF: i128 = 1 << 20;
 
 /// The most nodes, and the most points.
 const MOST_MEMBERS: i128 = 1024;

@@ -8,10 +8,7 @@ ghost use Rattle.std.specs.List.{AllByRecursion};
 ghost use Rattle.std.specs.Prelude.{if◌then◌else◌, length, map, pos, slice_index_or, ℕ, ◌&&◌, ◌<◌, ◌==◌, ◌↔◌, ◌≡◌};
 
 use alpha_set::{Node, NodeSet, Step};
-use game_model::Game;
-
-/// The total of every mix, and the greatest weight in one.
-const MIX_TOTAL: i128 = 65_536;
+use game_model::{Game, MIX_TOTAL};
 
 /// Whether each node fits a game and names nodes of the set.
 pub fn nodes_fit(game: &Game, nodes: &NodeSet) -> bool

@@ -15,13 +15,13 @@ use Rattle.game_model.proofs.Steps.{total-row}
 use Rattle.game_model.proofs.Family.{always-earns_family}
 
 -- where one vector is at most another, so is the sum over a row
-over_row-le : (g : Numbers) (s a c : ℕ) (old new : ℕ → ℤ) → ((t : ℕ) → t < g.states → old t ≤ℤ new t) →
+pub over_row-le : (g : Numbers) (s a c : ℕ) (old new : ℕ → ℤ) → ((t : ℕ) → t < g.states → old t ≤ℤ new t) →
     over_row g s a c (λ o t. old t) ≤ℤ over_row g s a c (λ o t. new t)
 over_row-le g s a c old new h =
     total-below-le g.observations _ _ (λ o lo. total-below-le g.states _ _ (λ t lt. le-mulℤ (g.weight s a c o t) (old t) (new t) (h t lt)))
 
 -- and the worth of a stage
-worth-le : (g : Numbers) (a s c : ℕ) (old new : ℕ → ℤ) → ((t : ℕ) → t < g.states → old t ≤ℤ new t) →
+pub worth-le : (g : Numbers) (a s c : ℕ) (old new : ℕ → ℤ) → ((t : ℕ) → t < g.states → old t ≤ℤ new t) →
     stage_worth g a old s c ≤ℤ stage_worth g a new s c
 worth-le g a s c old new h =
     plus (pos unit *ℤ g.reward s a c *ℤ pos (g.row_total * g.discount_under)) _ _ (le-mulℤ g.discount_over _ _ (over_row-le g s a c old new h))
@@ -30,13 +30,13 @@ worth-le g a s c old new h =
     plus r x y h = omega (arith, sums)
 
 -- the worth of a stage where the vector is one number everywhere
-worth-flat : (g : Numbers) → RowsAreFull g → (a s c : ℕ) → s < g.states → a < g.own_actions → c < g.informed_actions → (x : ℤ) →
+pub worth-flat : (g : Numbers) → RowsAreFull g → (a s c : ℕ) → s < g.states → a < g.own_actions → c < g.informed_actions → (x : ℤ) →
     stage_worth g a (λ t. x) s c ≡ pos unit *ℤ g.reward s a c *ℤ pos (g.row_total * g.discount_under) +ℤ pos g.discount_over *ℤ (pos g.row_total *ℤ x)
 worth-flat g full a s c ls la lc x =
     ap (λ z. pos unit *ℤ g.reward s a c *ℤ pos (g.row_total * g.discount_under) +ℤ pos g.discount_over *ℤ z) (total-row g full s a c ls la lc x)
 
 -- the least quotient rounded down of a greater worth is no less
-floor-le : (k : ℕ) (x y old new : ℤ) → (x *ℤ pos k) ≤ℤ old → old ≤ℤ new → new <ℤ ((y +ℤ pos 1) *ℤ pos k) → x ≤ℤ y
+pub floor-le : (k : ℕ) (x y old new : ℤ) → (x *ℤ pos k) ≤ℤ old → old ≤ℤ new → new <ℤ ((y +ℤ pos 1) *ℤ pos k) → x ≤ℤ y
 floor-le k x y old new low rise high =
     let less : (pos k *ℤ x) <ℤ (pos k *ℤ (y +ℤ pos 1)) = ends _ _ _ _ (mulℤ_comm x (pos k)) (mulℤ_comm (y +ℤ pos 1) (pos k)) (chain _ _ _ _ low rise high) in
     last x y (lt-mulℤ_cancel k x (y +ℤ pos 1) less)
@@ -67,7 +67,7 @@ span-covers reward row over room under span is most =
     omega arith
 
 -- so what a stage gives lies within the span, where the vector does
-within : (reward : ℤ) (row over room under span : ℕ) → over + room ≡ under → unit * unsigned_abs reward * under ≤ span * room →
+pub within : (reward : ℤ) (row over room under span : ℕ) → over + room ≡ under → unit * unsigned_abs reward * under ≤ span * room →
     (((neg_ℤ (pos span)) *ℤ pos (row * under)) ≤ℤ (pos unit *ℤ reward *ℤ pos (row * under) +ℤ pos over *ℤ (pos row *ℤ neg_ℤ (pos span))))
     × ((pos unit *ℤ reward *ℤ pos (row * under) +ℤ pos over *ℤ (pos row *ℤ pos span)) ≤ℤ (pos span *ℤ pos (row * under)))
 within reward row over room under span is most =
@@ -97,7 +97,7 @@ within reward row over room under span is most =
     lower x y z w v a b c e f h k i l = omega (arith, ints)
 
 -- what a game's numbers keep, at one state and informed action
-stage-within : (g : Numbers) (span a : ℕ) → KeepsSpan g span → a < g.own_actions → (s c : ℕ) → s < g.states → c < g.informed_actions →
+pub stage-within : (g : Numbers) (span a : ℕ) → KeepsSpan g span → a < g.own_actions → (s c : ℕ) → s < g.states → c < g.informed_actions →
     (((neg_ℤ (pos span)) *ℤ pos (g.row_total * g.discount_under)) ≤ℤ stage_worth g a (λ t. neg_ℤ (pos span)) s c)
     × (stage_worth g a (λ t. pos span) s c ≤ℤ (pos span *ℤ pos (g.row_total * g.discount_under)))
 stage-within g span a keeps la s c ls lc =

@@ -40,6 +40,12 @@ pub record IsBelief (states : ℕ) (weights : List ℤ) : Type 0 where
 abbrev pub AreCoprime : List ℤ → Type 0
 AreCoprime numbers = (d : ℕ) → AllByRecursion (λ x. d ∣ unsigned_abs x) numbers → d ≡ 1
 
+-- a mass over the states of a game: none of it negative, and in all at most 2^36 times the row total
+pub record IsMass (g : GameData) (mass : List ℤ) : Type 0 where
+  pub long : length mass ≡ g.shape.states
+  pub each : AllByRecursion (λ x. pos 0 ≤ℤ x) mass
+  pub most : sum_of mass ≤ℤ (pos (2 ^ 36) *ℤ g.shape.row_total)
+
 -- landings rise strictly by observation and next state
 abbrev pub IsBefore : Landing → Landing → Type 0
 IsBefore l m = (l.seen < m.seen) ⊎ ((l.seen ≡ m.seen) × (l.to < m.to))

@@ -25,7 +25,10 @@ pub const MOST_WIDTH: i128 = 1 << 72;
 /// Units of a vector for one unit of reward.
 pub const UNITS: i128 = 65_536;
 
-/// Rounds from minus the span to a seed vector.
+/// The total of every mix.
+pub const MIX_TOTAL: i128 = 65_536;
+
+/// Rounds from minus the span to a seed vector, and from the span to the values of the corners.
 pub const SEED_ROUNDS: u32 = 256;
 
 /// The sizes of a game, the common total of its rows, and its discount.

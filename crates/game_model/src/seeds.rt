@@ -21,6 +21,23 @@ impl Game {
         out.fill(-self.span());
         settle(self, a, SEED_ROUNDS, out);
     }
+
+    /// What one stage is worth in state `s` at own action `a` and informed action `c`, where a vector tells in units
+    /// what each next state is worth: 65,536 times the reward, plus the discounted average of the vector over the
+    /// row, all of it times the row total and the discount's denominator. It takes no memory.
+    pub fn stage_worth(&self, s: u32, a: u32, c: u32, vector: &[i128]) -> i128
+        requires state { s < self.now.shape.states }
+        requires own { a < self.now.shape.own_actions }
+        requires informed { c < self.now.shape.informed_actions }
+        requires bounded { IsBounded self.now vector.now }
+        ensures exact { result ≡ stage_worth (numbers self.now) a (λ t. slice_index_or vector.now t (pos 0)) s c }
+        ensures bounded { IsWorthWithin self.now result }
+    {
+        law_game(self);
+        let later = rest(self, s, a, c, vector);
+        let (over, under) = self.discount();
+        UNITS * self.reward(s, a, c) * (self.row_total() * under) + over * later
+    }
 }
 
 /// Takes a vector of minus the span so many rounds on.
@@ -76,26 +93,11 @@ fn least_worth(game: &Game, a: u32, s: u32, old: &[i128]) -> i128
     ensures bounded { IsWorthWithin game.now result }
 {
     law_game(game);
-    let mut least = worth(game, s, a, 0, old);
+    let mut least = game.stage_worth(s, a, 0, old);
     for c in 1..game.informed_actions() {
-        least = least.min(worth(game, s, a, c, old));
+        least = least.min(game.stage_worth(s, a, c, old));
     }
     least
-}
-
-/// What a stage and the old entries are worth at one informed action, before the division.
-fn worth(game: &Game, s: u32, a: u32, c: u32, old: &[i128]) -> i128
-    requires state { s < game.now.shape.states }
-    requires own { a < game.now.shape.own_actions }
-    requires informed { c < game.now.shape.informed_actions }
-    requires bounded { IsBounded game.now old.now }
-    ensures exact { result ≡ stage_worth (numbers game.now) a (λ t. slice_index_or old.now t (pos 0)) s c }
-    ensures bounded { IsWorthWithin game.now result }
-{
-    law_game(game);
-    let later = rest(game, s, a, c, old);
-    let (over, under) = game.discount();
-    UNITS * game.reward(s, a, c) * (game.row_total() * under) + over * later
 }
 
 /// The sum over the row of a triple of its weights times the old entries.

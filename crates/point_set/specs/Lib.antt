@@ -1,3 +1,6 @@
 pub mod Points
 pub mod Members
 pub mod Faults
+pub mod Corners
+pub mod Sawtooth
+pub mod Split

@@ -12,10 +12,7 @@ ghost use Rattle.std.specs.Prelude.{IfSome, IsNone, filter, map, pos, sum_by, un
 use crate::points::{Point, Share};
 use crate::splits::shares_after;
 use belief::{Belief, Mixes};
-use game_model::{Game, UNITS, law_game};
-
-/// The total of every mix.
-const MIX_TOTAL: i128 = 65_536;
+use game_model::{Game, MIX_TOTAL, UNITS, law_game};
 
 /// The first own action at which the value rule fails.
 pub fn first_value(game: &Game, points: &[Point], point: &Point) -> Option<u32>

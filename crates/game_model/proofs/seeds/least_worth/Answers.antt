@@ -10,24 +10,24 @@ use Rattle.game_model.proofs.seeds.least_worth.Goals as goal
 
 pub loop-c-init : goal.loop-c-init
 loop-c-init c =
-    let w_fits : FitsSigned w128 c.worth-least.result = search rules in
+    let w_fits : FitsSigned w128 c.stage_worth-least.result = search rules in
     let f : ℕ → ℤ = stage_worth (numbers c.args.game.now) c.args.a (λ t. slice_index_or c.args.old.now t (pos 0)) c.args.s in
-    simp to_z-of_z (record { least = least-one f c.worth-least.result c.worth-least.ensures.exact; bounded = c.worth-least.ensures.bounded })
+    simp to_z-of_z (record { least = least-one f c.stage_worth-least.result c.stage_worth-least.ensures.exact; bounded = c.stage_worth-least.ensures.bounded })
 
 pub loop-c-preserved : goal.loop-c-preserved
 loop-c-preserved c =
     let g : GameData = c.args.game.now in
     let f : ℕ → ℤ = stage_worth (numbers g) c.args.a (λ t. slice_index_or c.args.old.now t (pos 0)) c.args.s in
     let x : ℤ = c.loop-c.least in
-    let y : ℤ = c.worth.result in
+    let y : ℤ = c.stage_worth.result in
     let x_fits : FitsSigned w128 x = search rules in
     let y_fits : FitsSigned w128 y = search rules in
     let m_fits : FitsSigned w128 c.min-least.result = search rules in
     let is : c.min-least.result ≡ int_min x y = simp (to_z-of_z, c.loop-c.least-is) at c.min-least.ensures.value in
     simp to_z-of_z (record {
-      least = subst (IsLeastOf f (c.loop-c.c + 1)) (sym is) (least-more f c.loop-c.c x y (subst (IsLeastOf f c.loop-c.c) c.loop-c.least-is c.loop-c.invariant.least) c.worth.ensures.exact);
+      least = subst (IsLeastOf f (c.loop-c.c + 1)) (sym is) (least-more f c.loop-c.c x y (subst (IsLeastOf f c.loop-c.c) c.loop-c.least-is c.loop-c.invariant.least) c.stage_worth.ensures.exact);
       bounded = subst (IsWorthWithin g) (sym is)
-          (min-within x y (span g * unsigned_abs g.shape.row_total * unsigned_abs g.shape.discount.1) (subst (IsWorthWithin g) c.loop-c.least-is c.loop-c.invariant.bounded) c.worth.ensures.bounded);
+          (min-within x y (span g * unsigned_abs g.shape.row_total * unsigned_abs g.shape.discount.1) (subst (IsWorthWithin g) c.loop-c.least-is c.loop-c.invariant.bounded) c.stage_worth.ensures.bounded);
     })
 
 pub returns-clause-least : goal.returns-clause-least

@@ -3,11 +3,11 @@ use Rattle.std.proofs.Common.{◌∙◌, ap}
 use Rattle.std.proofs.lemmas.Int.{to_z-of_z}
 use Rattle.game_model.specs.Game.{GameData, reward_at}
 use Rattle.game_model.proofs.Worth.{found, found-fits, found-is, found-within}
-use Rattle.game_model.proofs.seeds.worth.Goals as goal
+use Rattle.game_model.proofs.accepted.Game.stage_worth.Goals as goal
 
 pub overflow_mul-result : goal.overflow_mul-result
 overflow_mul-result c =
-    let g : GameData = c.args.game.now in
+    let g : GameData = c.args.self.now in
     let f = found-fits g c.law_game.ensures.accepted c.args.s c.args.a c.args.c c.requires.state c.requires.own c.requires.informed c.rest-later.result c.rest-later.ensures.bounded in
     let whole = f.whole in
     let over = f.over in
@@ -18,7 +18,7 @@ overflow_mul-result c =
 
 pub overflow_mul-result-2 : goal.overflow_mul-result-2
 overflow_mul-result-2 c =
-    let g : GameData = c.args.game.now in
+    let g : GameData = c.args.self.now in
     let f = found-fits g c.law_game.ensures.accepted c.args.s c.args.a c.args.c c.requires.state c.requires.own c.requires.informed c.rest-later.result c.rest-later.ensures.bounded in
     let whole = f.whole in
     let over = f.over in
@@ -29,7 +29,7 @@ overflow_mul-result-2 c =
 
 pub overflow_mul-result-3 : goal.overflow_mul-result-3
 overflow_mul-result-3 c =
-    let g : GameData = c.args.game.now in
+    let g : GameData = c.args.self.now in
     let f = found-fits g c.law_game.ensures.accepted c.args.s c.args.a c.args.c c.requires.state c.requires.own c.requires.informed c.rest-later.result c.rest-later.ensures.bounded in
     let whole = f.whole in
     let over = f.over in
@@ -42,7 +42,7 @@ overflow_mul-result-3 c =
 
 pub overflow_mul-result-4 : goal.overflow_mul-result-4
 overflow_mul-result-4 c =
-    let g : GameData = c.args.game.now in
+    let g : GameData = c.args.self.now in
     let f = found-fits g c.law_game.ensures.accepted c.args.s c.args.a c.args.c c.requires.state c.requires.own c.requires.informed c.rest-later.result c.rest-later.ensures.bounded in
     let whole = f.whole in
     let over = f.over in
@@ -53,7 +53,7 @@ overflow_mul-result-4 c =
 
 pub overflow_add-result : goal.overflow_add-result
 overflow_add-result c =
-    let g : GameData = c.args.game.now in
+    let g : GameData = c.args.self.now in
     let f = found-fits g c.law_game.ensures.accepted c.args.s c.args.a c.args.c c.requires.state c.requires.own c.requires.informed c.rest-later.result c.rest-later.ensures.bounded in
     let whole = f.whole in
     let over = f.over in
@@ -68,7 +68,7 @@ overflow_add-result c =
 
 pub returns-clause-exact : goal.returns-clause-exact
 returns-clause-exact c =
-    let g : GameData = c.args.game.now in
+    let g : GameData = c.args.self.now in
     let f = found-fits g c.law_game.ensures.accepted c.args.s c.args.a c.args.c c.requires.state c.requires.own c.requires.informed c.rest-later.result c.rest-later.ensures.bounded in
     let whole = f.whole in
     let over = f.over in
@@ -82,11 +82,11 @@ returns-clause-exact c =
     let all = f.all in
     simp (c.reward.ensures, c.discount-over.ensures, c.row_total.ensures, to_z-of_z)
     (ap (λ (z : ℤ). found g (reward_at g c.args.s c.args.a c.args.c) z) c.rest-later.ensures.exact
-    ∙ found-is g c.law_game.ensures.accepted c.args.s c.args.a c.args.c c.requires.state c.requires.own c.requires.informed c.args.old.now)
+    ∙ found-is g c.law_game.ensures.accepted c.args.s c.args.a c.args.c c.requires.state c.requires.own c.requires.informed c.args.vector.now)
 
 pub returns-clause-bounded : goal.returns-clause-bounded
 returns-clause-bounded c =
-    let g : GameData = c.args.game.now in
+    let g : GameData = c.args.self.now in
     let f = found-fits g c.law_game.ensures.accepted c.args.s c.args.a c.args.c c.requires.state c.requires.own c.requires.informed c.rest-later.result c.rest-later.ensures.bounded in
     let whole = f.whole in
     let over = f.over in

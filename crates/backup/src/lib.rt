@@ -1,0 +1,6 @@
+//! The first nodes and points of a search, and what backups add to them.
+#![tactic(auto)]
+
+mod seeds;
+
+pub use seeds::seed;

@@ -1,0 +1,30 @@
+ghost use Rattle.alpha_set.specs.Nodes.{NodeFits, NodeStands, nodes_of};
+ghost use Rattle.backup.specs.Seeds.{AreSeedNodes, AreSeedPoints};
+ghost use Rattle.game_model.specs.Game.{numbers, span};
+ghost use Rattle.point_set.specs.Points.{PointFits, PointStands, points_of};
+ghost use Rattle.std.specs.List.{AllByRecursion};
+ghost use Rattle.std.specs.Prelude.{IfOk, length, ℕ, ◌<◌};
+
+use alpha_set::NodeSet;
+use game_model::Game;
+use point_set::PointSet;
+use std::alloc::{AllocError, Global};
+
+/// The seeds of a search: one node for each own action, which always plays it, with the vector that 256 rounds make
+/// from minus the span; one point for each state, at its corner, with the value that 256 rounds make from the span and
+/// with the informed player's replies of the last round; and where the first belief is no corner, a point at it. All
+/// masses are split into corners. All nodes and points fit the game and stand, so they bound every plan.
+///
+/// # Errors
+///
+/// Where no memory is to be had.
+pub fn seed(alloc: Global, game: &Game) -> Result<(NodeSet, PointSet), AllocError>
+    ensures nodes { IfOk result (λ sets. AreSeedNodes game.now sets.0) }
+    ensures points { IfOk result (λ sets. AreSeedPoints game.now sets.1) }
+    ensures nodes_fit { IfOk result (λ sets. AllByRecursion (NodeFits game.now (length sets.0)) sets.0) }
+    ensures nodes_stand { IfOk result (λ sets. (i : ℕ) → i < length sets.0 → NodeStands (numbers game.now) (nodes_of sets.0) (nodes_of sets.0 i)) }
+    ensures points_fit { IfOk result (λ sets. AllByRecursion (PointFits game.now (length sets.1)) sets.1) }
+    ensures points_stand { IfOk result (λ sets. (j : ℕ) → j < length sets.1 → PointStands (numbers game.now) (points_of sets.1) (points_of sets.1 j)) }
+{
+    Err(AllocError)
+}
