@@ -7,12 +7,8 @@ use crate::fault::LineFault;
 use crate::forms::{fraction_of, numbers_after, outcome_of, version, word_after};
 use crate::guards::{at_least, few, limited, member_below};
 use crate::place::Entry;
+use controller::{MOST_GAP, MOST_GAP_UNDER};
 use std::alloc::Global;
-
-/// The greatest numerator and the greatest denominator of a gap.
-const MOST_GAP: i128 = 1 << 40;
-
-const MOST_GAP_UNDER: i128 = 1 << 20;
 
 #[tactic(auto, unfolding(crate::specs::Entries::version_said))]
 pub fn version_line(words: &[&[u8]]) -> Result<Entry, LineFault>

@@ -13,10 +13,8 @@ use crate::guards::{
 };
 use crate::place::{Branch, Entry, Limits, Place};
 use game_model::{MIX_TOTAL, MOST_BELIEF};
+use point_set::MOST_SHARE;
 use std::alloc::Global;
-
-/// The greatest weight of a share.
-const MOST_SHARE: i128 = 1 << 66;
 
 /// The node of this number, where no place of the node before lacks anything.
 #[tactic(auto, unfolding(crate::specs::Entries::node_said))]

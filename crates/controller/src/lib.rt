@@ -7,4 +7,4 @@ mod points;
 #[cfg(test)]
 mod tests;
 
-pub use certificates::{Certificate, Outcome};
+pub use certificates::{Certificate, MOST_GAP, MOST_GAP_UNDER, Outcome};

@@ -9,10 +9,7 @@ ghost use Rattle.std.specs.Prelude.{length, map, neg_ℤ, pos, unsigned_abs, ◌
 
 use belief::Belief;
 use game_model::{Game, law_game};
-use point_set::{Point, PointSet, Share};
-
-/// The greatest weight of a share.
-const MOST_SHARE: i128 = 1 << 66;
+use point_set::{MOST_SHARE, Point, PointSet, Share};
 
 /// Whether each point fits a game and names points of the set.
 pub fn points_fit(game: &Game, points: &PointSet) -> bool

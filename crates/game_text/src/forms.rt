@@ -6,13 +6,8 @@ ghost use Rattle.game_text.specs.Fault.{Gives};
 ghost use Rattle.game_text.specs.Forms.{begins, is_within, limited, within, below_limit, version_line, discount_within, weights_within, total_within, numbers_after, numbers_said};
 
 use crate::fault::{Kind, LineFault};
+use game_model::{MOST_BELIEF, MOST_DISCOUNT};
 use std::alloc::Global;
-
-/// The greatest row total, and the greatest magnitude of a reward.
-pub const MOST_TOTAL: i128 = 1 << 30;
-
-/// The greatest weight of a first belief, its greatest total, and the greatest denominator of a discount.
-const MOST_WEIGHT: i128 = 1 << 20;
 
 /// The numbers of words that are all number words.
 fn numbers(alloc: Global, words: &[&[u8]]) -> Result<Vec<i128>, LineFault>
@@ -115,7 +110,7 @@ pub fn discount_within(over: i128, under: i128) -> Result<(i128, i128), Kind>
     ensures value { result ≡ discount_within over under }
     ensures limits { IfOk result IsDiscount }
 {
-    if over < 0 || over >= under || under > MOST_WEIGHT {
+    if over < 0 || over >= under || under > MOST_DISCOUNT {
         return Err(Kind::Range);
     }
     Ok((over, under))
@@ -129,7 +124,7 @@ pub fn weights_within(weights: &[i128]) -> Result<(), Kind>
 {
     if !weights
         .iter()
-        .all(|weight| is_within(0, MOST_WEIGHT, *weight))
+        .all(|weight| is_within(0, MOST_BELIEF, *weight))
     {
         return Err(Kind::Range);
     }
@@ -144,7 +139,7 @@ pub fn total_within(weights: &[i128]) -> Result<(), Kind>
     ensures { result ≡ total_within weights.now }
 {
     let total = sum(weights);
-    if !is_within(1, MOST_WEIGHT, total) {
+    if !is_within(1, MOST_BELIEF, total) {
         return Err(Kind::Belief);
     }
     Ok(())

@@ -11,10 +11,10 @@ ghost use Rattle.game_text.specs.Limits.{IsDiscount};
 
 use crate::fault::{Kind, LineFault, TextFault, numbered};
 use crate::forms::{
-    MOST_TOTAL, discount_within, limited, numbers_after, total_within, version, weights_within,
+    discount_within, limited, numbers_after, total_within, version, weights_within,
     within,
 };
-use game_model::Shape;
+use game_model::{MOST_ACTIONS, MOST_OBSERVATIONS, MOST_ROW_TOTAL, MOST_STATES, Shape};
 use std::alloc::Global;
 
 /// The lines before the rows.
@@ -60,10 +60,10 @@ fn size_said(alloc: Global, words: &[&[u8]]) -> Result<Sizes, LineFault>
 {
     let numbers = numbers_after(alloc, words, b"size", 4)?;
     Ok(Sizes {
-        states: within(1, 16, numbers[0])?,
-        own_actions: within(1, 6, numbers[1])?,
-        informed_actions: within(1, 6, numbers[2])?,
-        observations: within(1, 8, numbers[3])?,
+        states: within(1, MOST_STATES as u32, numbers[0])?,
+        own_actions: within(1, MOST_ACTIONS, numbers[1])?,
+        informed_actions: within(1, MOST_ACTIONS, numbers[2])?,
+        observations: within(1, MOST_OBSERVATIONS, numbers[3])?,
     })
 }
 
@@ -74,7 +74,7 @@ fn total_said(alloc: Global, words: &[&[u8]]) -> Result<i128, LineFault>
     ensures most { IfOk result (λ total. total ≤ℤ pos 1073741824) }
 {
     let numbers = numbers_after(alloc, words, b"total", 1)?;
-    Ok(limited(1, MOST_TOTAL, numbers[0])?)
+    Ok(limited(1, MOST_ROW_TOTAL, numbers[0])?)
 }
 
 #[tactic(auto, unfolding(crate::specs::Entries::discount_said))]

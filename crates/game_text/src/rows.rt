@@ -6,13 +6,10 @@ ghost use Rattle.game_text.specs.Entries.{step_said, out_said, end_said, row_end
 ghost use Rattle.game_text.specs.Place.{IsPlace, FitsPlace, entry_in, pair_of, row_said};
 
 use crate::fault::{Kind, LineFault};
-use crate::forms::{MOST_TOTAL, begins, below_limit, limited, numbers_after};
+use crate::forms::{begins, below_limit, limited, numbers_after};
 use crate::place::{Latest, Place, RowEntry};
-use game_model::{Landing, Shape};
+use game_model::{Landing, MOST_REWARD, MOST_WIDTH, Shape};
 use std::alloc::Global;
-
-/// The greatest product of the width rule.
-const MOST_WIDTH: i128 = 1 << 72;
 
 /// The triple is the next one, where so many were begun.
 #[tactic(auto, unfolding(crate::specs::Forms::next_triple))]
@@ -104,7 +101,7 @@ fn step_line(alloc: Global, place: &Place, words: &[&[u8]]) -> Result<RowEntry, 
     let state = below_limit(shape.states, numbers[0])?;
     let own = below_limit(shape.own_actions, numbers[1])?;
     let informed = below_limit(shape.informed_actions, numbers[2])?;
-    let reward = limited(-MOST_TOTAL, MOST_TOTAL, numbers[3])?;
+    let reward = limited(-MOST_REWARD, MOST_REWARD, numbers[3])?;
     next_triple(shape, place.begun, state, own, informed)?;
     full_row(shape, place.begun, place.sum)?;
     narrow_reward(shape, reward)?;

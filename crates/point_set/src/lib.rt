@@ -9,6 +9,6 @@ mod stands;
 mod tests;
 mod values;
 
-pub use points::{Point, Share};
+pub use points::{MOST_SHARE, Point, Share};
 pub use sets::{MOST_POINTS, PointSet, PushFault};
 pub use stands::PointFault;

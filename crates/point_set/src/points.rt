@@ -1,5 +1,8 @@
 use belief::{Belief, Mixes};
 
+/// The greatest weight of a share.
+pub const MOST_SHARE: i128 = 1 << 66;
+
 /// A share of a mass: after own action `a` and observation `o`, so many times the belief of point `k`.
 #[derive(Clone, Copy, Debug, PartialEq, Eq)]
 pub struct Share {
