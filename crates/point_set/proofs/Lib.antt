@@ -4,3 +4,4 @@ pub mod Named
 pub mod Masses
 pub mod Worth
 pub mod Fitting
+pub mod MostTimes
