@@ -5,3 +5,6 @@ pub mod Masses
 pub mod Worth
 pub mod Fitting
 pub mod MostTimes
+pub mod CornerNumbers
+pub mod PointBounds
+pub mod LeastBounds

@@ -1,6 +1,7 @@
 //! Points of a splitting strategy of the informed player: beliefs with values, mixes and shares, kept in a set.
 #![tactic(auto)]
 
+mod corners;
 mod points;
 mod sawtooth;
 mod sets;

@@ -2,17 +2,18 @@ ghost use Rattle.point_set.specs.Corners.{HasCorner, IsCurrentCorner};
 ghost use Rattle.point_set.specs.Faults.{FailsFirst};
 ghost use Rattle.point_set.specs.Members.{most_points, point_data};
 ghost use Rattle.point_set.specs.Points.{PointFits, PointStands, no_point, points_of};
-ghost use Rattle.point_set.specs.Sawtooth.{AreMeasured, IsSawtooth};
+ghost use Rattle.point_set.specs.Sawtooth.{AreCorners, AreMeasured, IsSawtooth};
 ghost use Rattle.point_set.specs.Split.{IsSplit, IsWanted, MakesUp};
 ghost use Rattle.game_model.specs.Game.{numbers};
 ghost use Rattle.scaled_num.specs.Sums.{sum_of};
 ghost use Rattle.std.specs.List.{AllByRecursion};
-ghost use Rattle.std.specs.Prelude.{IfOk, IfSome, IsErrOf, IsNone, OnErr, OnOk, [], length, slice_index_or, ◌++◌, ◌<◌, ◌↔◌, ◌∷◌, ◌≡◌, ◌≤ℤ◌, ◌≤◌};
+ghost use Rattle.std.specs.Prelude.{IfOk, IfSome, IsErrOf, IsNone, OnErr, OnOk, [], length, slice_index_or, ℕ, ◌++◌, ◌<◌, ◌↔◌, ◌∷◌, ◌≡◌, ◌≤ℤ◌, ◌≤◌};
 
+use crate::corners::{NO_CORNER, corners_with};
 use crate::points::Point;
 use crate::split::Split;
 use crate::stands::{PointFault, first_fault};
-use game_model::Game;
+use game_model::{Game, MOST_STATES};
 use std::alloc::Global;
 use std::marker::Model;
 
@@ -32,18 +33,21 @@ pub enum PushFault {
 #[derive(Drop)]
 pub struct PointSet {
     points: Vec<Point>,
+    /// For each state the number of its current corner, or the mark for none.
+    corners: [u32; MOST_STATES],
 }
 
 impl Model for PointSet {
-    ghost use Rattle.point_set.specs.Members.{most_points, point_data};
+    ghost use Rattle.point_set.specs.Kept.{AreKept};
+    ghost use Rattle.point_set.specs.Members.{point_data};
     ghost use Rattle.point_set.specs.Points.{PointData};
-    ghost use Rattle.std.specs.Prelude.{List, length, map, ◌≤◌};
+    ghost use Rattle.std.specs.Prelude.{List, map};
 
     ghost Value = { List PointData };
 
     ghost view = { λ set. map point_data set.points.items };
 
-    ghost invariant = { λ set. length set.points.items ≤ most_points };
+    ghost invariant = { λ set. AreKept (map point_data set.points.items) set.corners };
 }
 
 impl PointSet {
@@ -53,6 +57,7 @@ impl PointSet {
     {
         PointSet {
             points: Vec::new(alloc),
+            corners: [NO_CORNER; MOST_STATES],
         }
     }
 
@@ -88,9 +93,11 @@ impl PointSet {
             return Err(PushFault::Full);
         }
         let number = self.points.len() as u32;
+        let corners = corners_with(self.corners, &self.points, &point);
         if self.points.push(point).is_err() {
             return Err(PushFault::OutOfMemory);
         }
+        self.corners = corners;
         Ok(number)
     }
 
@@ -100,7 +107,17 @@ impl PointSet {
         requires { HasCorner self.now s }
         ensures { IsCurrentCorner self.now s result }
     {
-        0
+        self.corners[s as usize]
+    }
+
+    /// The current corners of the first states, by state.
+    fn first_corners(&self, states: usize) -> &[u32]
+        requires few { states ≤ 16 }
+        requires corners { (s : ℕ) → s < states → HasCorner self.now s }
+        ensures count { length result.now ≡ states }
+        ensures current { AreCorners self.now states (λ s. slice_index_or result.now s 0) }
+    {
+        &self.corners[..states]
     }
 
     /// The sawtooth bound of a mass, which no plan of player one passes: the least of what the mass costs at the
