@@ -128,10 +128,10 @@ pub next-least : (points : List PointData) (corners : ℕ → ℕ) (mass : List 
 next-least points corners mass i least bound h here = elim (min-is least bound) [
   | inl old ↦ subst (LeastSoFar points corners mass (i + 1)) (sym old.0) (record { base = h.base; each = with least (λ k b l g. h.each k b l g) old.1; some = h.some })
   | inr new ↦ subst (LeastSoFar points corners mass (i + 1)) (sym new.0) (record {
-      base = chain bound least (base_cost points corners mass) new.1 h.base;
-      each = with bound (λ k b l g. chain bound least b new.1 (h.each k b l g)) (same bound);
-      some = inr (i, here);
-    })
+    base = chain bound least (base_cost points corners mass) new.1 h.base;
+    each = with bound (λ k b l g. chain bound least b new.1 (h.each k b l g)) (same bound);
+    some = inr (i, here);
+  })
 ]
   where
     chain : (x y z : ℤ) → x ≤ℤ y → y ≤ℤ z → x ≤ℤ z

@@ -89,7 +89,6 @@ times-fit times weight t w =
     let size : unsigned_abs (times *ℤ weight) ≤ 2 ^ 120 = rw (unsigned_abs-mul times weight) (mul-le (unsigned_abs times) (unsigned_abs weight) (2 ^ 100) (2 ^ 20) (omega (arith, ints)) (omega (arith, ints))) in
     fits_signed_from_abs w128 (times *ℤ weight) (omega arith)
 
-
 pub floor-below : (q a b times : ℤ) → pos 1 ≤ℤ b → IsFloor q a b → a <ℤ (times *ℤ b) → q ≤ℤ times
 floor-below q a b times p f h = by_lt_z times q (λ less. absurd (too_much less)) (λ most. most)
   where

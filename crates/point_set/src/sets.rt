@@ -11,7 +11,8 @@ ghost use Rattle.std.specs.Prelude.{IfOk, IfSome, IsErrOf, IsNone, OnErr, OnOk, 
 
 use crate::corners::{NO_CORNER, corners_with};
 use crate::points::Point;
-use crate::split::Split;
+use crate::sawtooth::sawtooth_bound;
+use crate::split::{Split, split_mass};
 use crate::stands::{PointFault, first_fault};
 use game_model::{Game, MOST_STATES};
 use std::alloc::Global;
@@ -128,7 +129,8 @@ impl PointSet {
         requires { AreMeasured self.now mass.now }
         ensures { IsSawtooth self.now mass.now result }
     {
-        0
+        let corners = self.first_corners(mass.len());
+        sawtooth_bound(&self.points, corners, mass)
     }
 
     /// Splits a mass into beliefs of points, by a list of wanted points and weights. The total of the mass is shared
@@ -144,6 +146,8 @@ impl PointSet {
         ensures inside { AllByRecursion (λ item. item.0 < length self.now) out.new }
         ensures most { AllByRecursion (λ item. item.1 ≤ℤ sum_of mass.now) out.new }
     {
+        let corners = self.first_corners(mass.len());
+        split_mass(&self.points, corners, wanted, mass, out);
     }
 
     /// Whether a point stands: None where the split rule and the value rule hold everywhere. Else the first place
