@@ -93,7 +93,7 @@ with points point = points ++ point ∷ []
 old-at : (points : List PointData) (point : PointData) (i : ℕ) → i < length points → point_at (with points point) i ≡ point_at points i
 old-at points point i l = get_or_append_left points (point ∷ []) no_point i l
 
-new-at : (points : List PointData) (point : PointData) → point_at (with points point) (length points) ≡ point
+pub new-at : (points : List PointData) (point : PointData) → point_at (with points point) (length points) ≡ point
 new-at points point = ap (λ (i : ℕ). point_at (with points point) i) (same (length points)) ∙ get_or-append-add points (point ∷ []) 0 no_point
   where
     same : (n : ℕ) → n ≡ n + 0

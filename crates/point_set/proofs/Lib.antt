@@ -8,3 +8,4 @@ pub mod MostTimes
 pub mod CornerNumbers
 pub mod PointBounds
 pub mod LeastBounds
+pub mod ThreePoints

@@ -214,6 +214,9 @@ fn the_sawtooth_takes_the_even_point_twice(rt: HostRuntime) {
     let Ok(lower) = plain_point(rt.alloc(), &game, Belief::corner(2, 1), 65_535) else {
         panic!(rt; "out of memory");
     };
-    assert!(rt; matches!(set.push(lower), Ok(3)));
+    let Ok(number) = set.push(lower) else {
+        panic!(rt; "out of memory");
+    };
+    assert_eq!(rt; number, 3);
     assert_eq!(rt; set.corner(1), 3);
 }

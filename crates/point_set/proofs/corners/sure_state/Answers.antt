@@ -1,8 +1,6 @@
 use Rattle.std.proofs.Common.{rules, ◌≡◌, ◌<◌, ◌∙◌, List, ap, length, of_z, subst, sym, FitsSigned, ℕ, ℤ, pos, ◌≤ℤ◌}
 use Rattle.std.specs.Int.{w128}
 use Rattle.scaled_num.specs.Share.{at}
-use Rattle.scaled_num.specs.Sums.{sum_of}
-use Rattle.point_set.specs.Kept.{IsSure}
 use Rattle.point_set.proofs.CornerNumbers.{is-sure, sure-sum}
 use Rattle.point_set.proofs.Named.{same-bits}
 use Rattle.point_set.proofs.corners.sure_state.Goals as goal

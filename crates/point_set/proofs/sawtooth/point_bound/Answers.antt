@@ -1,7 +1,7 @@
-use Rattle.std.proofs.Common.{rules, ◌≡◌, ◌≤◌, ◌^◌, ◌∙◌, List, ℤ, pos, ap, subst, sym, FitsSigned, of_z}
+use Rattle.std.proofs.Common.{rules, ◌≡◌, ◌≤◌, ◌^◌, ◌∙◌, List, ℤ, pos, ap, subst, sym, FitsSigned}
 use Rattle.std.specs.Int.{w128}
 use Rattle.std.proofs.lemmas.Int.{to_z-of_z}
-use Rattle.point_set.specs.Bounds.{IsPointBound, cost_at, cost_size}
+use Rattle.point_set.specs.Bounds.{cost_at, cost_size}
 use Rattle.point_set.specs.Sawtooth.{IsMostTimes}
 use Rattle.point_set.proofs.Named.{same-bits}
 use Rattle.point_set.proofs.PointBounds.{belief-small, bound-fits, bound-is, bound-none, mass-light}

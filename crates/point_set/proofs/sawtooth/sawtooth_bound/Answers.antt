@@ -1,14 +1,10 @@
-use Rattle.std.proofs.Common.{rules, arith, ◌≡◌, ◌<◌, ◌≤◌, ◌^◌, ◌∙◌, FitsSigned, List, ℕ, ℤ, pos, ap, subst, sym, take, length, get_or}
-use Rattle.std.specs.Int.{int_min, w128}
+use Rattle.std.proofs.Common.{rules, arith, ◌≡◌, ◌<◌, ◌∙◌, FitsSigned, List, ℕ, ℤ, subst, sym, take, length, get_or}
+use Rattle.std.specs.Int.{w128}
 use Rattle.std.proofs.lemmas.Int.{to_z-of_z}
 use Rattle.std.proofs.lemmas.List.{length-take}
 use Rattle.game_model.proofs.Front.{length-map}
-use Rattle.game_model.specs.Game.{span}
-use Rattle.point_set.specs.Bounds.{IsPointBound, cost_at}
-use Rattle.point_set.specs.Corners.{point_at}
 use Rattle.point_set.specs.Members.{data_of, point_data}
 use Rattle.point_set.specs.Points.{PointData}
-use Rattle.point_set.specs.Sawtooth.{base_cost}
 use Rattle.point_set.specs.declared.points.Point.{Point as PointParts}
 use Rattle.point_set.proofs.LeastBounds.{AreValues, all-least, base-is, few-states, first-least, front-values, is-bound, next-least, priced, sized}
 use Rattle.point_set.proofs.Named.{data-at}

@@ -1,4 +1,4 @@
-use Rattle.std.proofs.Common.{rules, arith, length, ◌<◌, FitsSigned, ap, ℕ, ℤ, to_z}
+use Rattle.std.proofs.Common.{rules, arith, length, ◌<◌, FitsSigned, ap, ℕ, to_z}
 use Rattle.std.specs.Int.{w128}
 use Rattle.std.proofs.lemmas.Int.{to_z-of_z}
 use Rattle.scaled_num.specs.Share.{IsFloor, at}

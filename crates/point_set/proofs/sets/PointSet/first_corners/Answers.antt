@@ -1,4 +1,4 @@
-use Rattle.std.proofs.Common.{ℕ, List, ap, get_or, map, subst, sym, take}
+use Rattle.std.proofs.Common.{List, subst, sym}
 use Rattle.std.proofs.lemmas.List.{get_or-take}
 use Rattle.point_set.specs.Corners.{IsCurrentCorner}
 use Rattle.point_set.specs.Kept.{AreKept}
