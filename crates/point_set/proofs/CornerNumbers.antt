@@ -1,6 +1,6 @@
 -- The current corners that a set keeps, where a point is added.
 use Rattle.std.proofs.Common.{◌≡◌, ℕ, zero, suc, ◌+◌, ◌^◌, ◌<◌, ◌≤◌, ◌⊎◌, inl, inr, List, [], ◌∷◌, ◌++◌, length, get_or, set, replicate, refl, ap, arith, sym, subst, ◌∙◌, length-append}
-use Rattle.std.specs.Prelude.{ℤ, pos, negsuc, ◌+ℤ◌, ◌≤ℤ◌, ◌<ℤ◌}
+use Rattle.std.specs.Prelude.{ℤ, pos, ◌≤ℤ◌, ◌<ℤ◌}
 use Rattle.std.specs.List.{AllByRecursion}
 use Rattle.std.proofs.lemmas.Int.{ints}
 use Rattle.std.proofs.lemmas.List.{get_or_append_left, get_or-append-add, get_or-set_same, get_or-set_other, length-set, get_or-replicate, length-replicate}
@@ -11,7 +11,7 @@ use Rattle.scaled_num.proofs.Sums.{each-append, each-at}
 use Rattle.game_model.specs.Game.{IsBelief, IsWithin}
 use Rattle.belief.specs.Beliefs.{corner_of}
 use Rattle.point_set.specs.Corners.{HasCorner, IsAtCorner, IsCurrentCorner, point_at}
-use Rattle.point_set.specs.Kept.{AreKept, HasNone, IsAbove, IsCornerNumber, IsNumber, IsSure}
+use Rattle.point_set.specs.Kept.{AreKept, IsAbove, IsCornerNumber, IsNumber, IsSure}
 use Rattle.point_set.specs.Members.{most_points}
 use Rattle.point_set.specs.Points.{PointData, no_point}
 

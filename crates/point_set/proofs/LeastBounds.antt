@@ -1,24 +1,24 @@
 -- The sawtooth bound as the least of the bounds of all points.
-use Rattle.std.proofs.Common.{◌≡◌, ℕ, zero, suc, ◌+◌, ◌*◌, ◌^◌, ◌<◌, ◌≤◌, ◌⊎◌, inl, inr, List, [], ◌∷◌, length, get_or, take, refl, ap, arith, sym, subst, ◌∙◌}
-use Rattle.std.specs.Prelude.{ℤ, pos, neg_ℤ, ◌+ℤ◌, ◌-ℤ◌, ◌*ℤ◌, ◌≤ℤ◌, unsigned_abs}
+use Rattle.std.proofs.Common.{◌≡◌, ℕ, ◌+◌, ◌*◌, ◌^◌, ◌<◌, ◌≤◌, ◌⊎◌, inl, inr, List, length, get_or, take, ap, arith, sym, subst, ◌∙◌}
+use Rattle.std.specs.Prelude.{ℤ, pos, ◌+ℤ◌, ◌-ℤ◌, ◌*ℤ◌, ◌≤ℤ◌, unsigned_abs}
 use Rattle.std.specs.Int.{int_min}
 use Rattle.std.specs.List.{AllByRecursion}
 use Rattle.std.proofs.Math.Nat.{mul-le-mul_left}
 use Rattle.std.proofs.lemmas.Int.{ints}
 use Rattle.std.proofs.lemmas.List.{get_or-take}
 use Rattle.scaled_num.specs.Share.{at}
-use Rattle.scaled_num.specs.Sums.{below, sum_of, total}
+use Rattle.scaled_num.specs.Sums.{sum_of}
 use Rattle.scaled_num.proofs.Sums.{each-at, total-below}
-use Rattle.game_model.specs.Game.{GameData, IsBelief, IsGame, IsMass, IsWithin, greatest_reward, span}
+use Rattle.game_model.specs.Game.{GameData, IsBelief, greatest_reward, span}
 use Rattle.game_model.proofs.Ceil.{magnitude-is}
 use Rattle.game_model.proofs.Worth.{span-small}
 use Rattle.point_set.specs.Bounds.{IsPointBound, IsPriced, IsSized, cost_at, cost_less}
-use Rattle.point_set.specs.Corners.{HasCorner, IsAtCorner, IsCurrentCorner, point_at}
+use Rattle.point_set.specs.Corners.{HasCorner, IsCurrentCorner, point_at}
 use Rattle.point_set.specs.Kept.{IsSure}
 use Rattle.point_set.specs.Members.{most_points}
 use Rattle.point_set.specs.Points.{PointData, PointFits, no_point}
 use Rattle.point_set.specs.Sawtooth.{AreCorners, AreMeasured, IsBound, IsMostTimes, IsSawtooth, base_cost, cost_with}
-use Rattle.point_set.proofs.CornerNumbers.{one-corner, sure-sum}
+use Rattle.point_set.proofs.CornerNumbers.{sure-sum}
 use Rattle.point_set.proofs.PointBounds.{one-times}
 use Rattle.point_set.proofs.Worth.{Widths, value-abs, widths}
 

@@ -1,5 +1,5 @@
 -- The bound of one point: exactness and size.
-use Rattle.std.proofs.Common.{◌≡◌, ℕ, zero, suc, ◌+◌, ◌*◌, ◌^◌, ◌<◌, ◌≤◌, ◌⊎◌, inl, inr, List, [], ◌∷◌, length, get_or, refl, ap, arith, sym, subst, ◌∙◌}
+use Rattle.std.proofs.Common.{◌≡◌, ℕ, ◌+◌, ◌*◌, ◌^◌, ◌<◌, ◌≤◌, List, [], ◌∷◌, length, refl, ap, arith, sym, subst, ◌∙◌}
 use Rattle.std.specs.Prelude.{ℤ, pos, ◌+ℤ◌, ◌-ℤ◌, ◌*ℤ◌, ◌≤ℤ◌, unsigned_abs, FitsSigned, sum_by}
 use Rattle.std.specs.Int.{w128}
 use Rattle.std.specs.List.{AllByRecursion}
@@ -8,17 +8,16 @@ use Rattle.std.proofs.lemmas.Int.{ints, fits_signed_from_abs, unsigned_abs-mul}
 use Rattle.std.proofs.lemmas.Nat.{mul-le}
 use Rattle.scaled_num.specs.Share.{at}
 use Rattle.scaled_num.specs.Sums.{below, sum_of, total}
-use Rattle.scaled_num.proofs.Products.{mulℤ_comm}
 use Rattle.scaled_num.proofs.Ring.{ring, x, ◌⊕◌, ◌⊖◌, ◌⊗◌}
 use Rattle.scaled_num.proofs.Sums.{each-at, total-below, total-below-le, total-places, total-pos, total-scale}
 use Rattle.game_model.specs.Game.{IsBelief, IsWithin}
 use Rattle.game_model.proofs.Ceil.{magnitude-is}
 use Rattle.game_model.proofs.Pay.{each-from}
 use Rattle.belief.specs.Beliefs.{weight_at}
-use Rattle.point_set.specs.Bounds.{IsPointBound, IsPriced, IsSized, cost_at, cost_less, cost_size}
+use Rattle.point_set.specs.Bounds.{IsPriced, IsSized, cost_at, cost_less, cost_size}
 use Rattle.point_set.specs.Sawtooth.{FitsTimes, IsMostTimes}
 use Rattle.point_set.proofs.Masses.{sum-below-scaled}
-use Rattle.point_set.proofs.Running.{abs-add, at-most-sum, next-sum, total-below-more, total-size}
+use Rattle.point_set.proofs.Running.{abs-add, at-most-sum, next-sum, total-size}
 
 -- ---- the sum as the code forms it
 abbrev pub term : List ℤ → List ℤ → ℕ → ℤ

@@ -1,8 +1,8 @@
 -- Three points of two states, and a mass of 2 and 3.
-use Rattle.std.proofs.Common.{◌≡◌, ℕ, zero, suc, ◌+◌, ◌^◌, ◌<◌, List, [], ◌∷◌, ◌++◌, length, refl, ap, arith, subst, sym, ◌∙◌, length-append}
+use Rattle.std.proofs.Common.{◌≡◌, ℕ, zero, suc, ◌^◌, ◌<◌, List, [], ◌∷◌, ◌++◌, length, refl, ap, arith, subst, sym, ◌∙◌, length-append}
 use Rattle.std.specs.Prelude.{ℤ, pos, ◌*ℤ◌, ◌≤ℤ◌}
 use Rattle.std.proofs.lemmas.Int.{ints}
-use Rattle.game_model.specs.Game.{GameData, IsGame, IsMass}
+use Rattle.game_model.specs.Game.{GameData, IsGame}
 use Rattle.belief.specs.Beliefs.{corner_of}
 use Rattle.point_set.specs.Corners.{HasCorner, IsAtCorner}
 use Rattle.point_set.specs.Members.{most_points}

@@ -12,7 +12,7 @@ use game_model::MOST_STATES;
 /// The mark of a state at whose corner no point is.
 pub const NO_CORNER: u32 = MOST_POINTS as u32;
 
-/// The current corners after one more point.
+/// The current corners, by state, after one more point.
 pub fn corners_with(
     mut corners: [u32; MOST_STATES],
     points: &[Point],

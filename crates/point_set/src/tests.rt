@@ -147,12 +147,7 @@ fn two_states(alloc: Global) -> Result<Game, GameFault> {
 }
 
 /// A point of that game without shares.
-fn plain_point(
-    alloc: Global,
-    game: &Game,
-    belief: Belief,
-    value: i128,
-) -> Result<Point, AllocError>
+fn plain_point(alloc: Global, game: &Game, belief: Belief, value: i128) -> Result<Point, AllocError>
     requires states { game.now.shape.states ≡ 2 }
     requires informed { game.now.shape.informed_actions ≡ 1 }
     requires span { span game.now ≡ 65536 }

@@ -40,7 +40,7 @@ pub fn first_weight(belief: &[i128]) -> usize
     0
 }
 
-/// The greatest number, at most so many, that a weight times it is no more than a part of a mass.
+/// The greatest number up to `times` whose product with a weight is at most a part of a mass.
 fn lowered(times: i128, part: i128, weight: i128) -> i128
     requires times { IsWithin (pos 0) (pos (2 ^ 100)) times }
     requires part { pos 0 ≤ℤ part }
