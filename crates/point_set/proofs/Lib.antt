@@ -4,3 +4,8 @@ pub mod Named
 pub mod Masses
 pub mod Worth
 pub mod Fitting
+pub mod MostTimes
+pub mod CornerNumbers
+pub mod PointBounds
+pub mod LeastBounds
+pub mod ThreePoints

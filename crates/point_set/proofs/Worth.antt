@@ -136,7 +136,7 @@ belief_sum g p = sum_by (weight_at p.belief) (below g.shape.states)
 pub belief-small : (g : GameData) (p : PointParts) → PointFits g most_points (point_data p) → belief_sum g p ≤ 2 ^ 20
 belief-small g p h = let high = h.belief.sums.1 in omega (arith, ints, belief-total g.shape.states p.belief h.belief)
 
-value-abs : (v b : ℕ) (s y : ℤ) → s ≡ pos b → IsWithin (neg_ℤ (pos v *ℤ s)) (pos v *ℤ s) y → unsigned_abs y ≤ v * b
+pub value-abs : (v b : ℕ) (s y : ℤ) → s ≡ pos b → IsWithin (neg_ℤ (pos v *ℤ s)) (pos v *ℤ s) y → unsigned_abs y ≤ v * b
 value-abs v b s y e h =
     let k : IsWithin (neg_ℤ (pos (v * b))) (pos (v * b)) y = subst (λ (z : ℤ). IsWithin (neg_ℤ (pos v *ℤ z)) (pos v *ℤ z) y) e h in
     let low = k.0 in

@@ -1,14 +1,19 @@
 //! Points of a splitting strategy of the informed player: beliefs with values, mixes and shares, kept in a set.
 #![tactic(auto)]
 
+mod corners;
 mod points;
+mod sawtooth;
 mod sets;
+mod split;
 mod splits;
 mod stands;
 #[cfg(test)]
 mod tests;
+mod times;
 mod values;
 
 pub use points::{MOST_SHARE, Point, Share};
 pub use sets::{MOST_POINTS, PointSet, PushFault};
+pub use split::{MOST_ITEMS, Split};
 pub use stands::PointFault;

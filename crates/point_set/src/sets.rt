@@ -1,13 +1,20 @@
+ghost use Rattle.point_set.specs.Corners.{HasCorner, IsCurrentCorner};
 ghost use Rattle.point_set.specs.Faults.{FailsFirst};
 ghost use Rattle.point_set.specs.Members.{most_points, point_data};
 ghost use Rattle.point_set.specs.Points.{PointFits, PointStands, no_point, points_of};
+ghost use Rattle.point_set.specs.Sawtooth.{AreCorners, AreMeasured, IsSawtooth};
+ghost use Rattle.point_set.specs.Split.{IsSplit, IsWanted, MakesUp};
 ghost use Rattle.game_model.specs.Game.{numbers};
+ghost use Rattle.scaled_num.specs.Sums.{sum_of};
 ghost use Rattle.std.specs.List.{AllByRecursion};
-ghost use Rattle.std.specs.Prelude.{IfOk, IfSome, IsErrOf, IsNone, OnErr, OnOk, [], length, slice_index_or, ◌++◌, ◌<◌, ◌↔◌, ◌∷◌, ◌≡◌, ◌≤◌};
+ghost use Rattle.std.specs.Prelude.{IfOk, IfSome, IsErrOf, IsNone, OnErr, OnOk, [], length, slice_index_or, ℕ, ◌++◌, ◌<◌, ◌↔◌, ◌∷◌, ◌≡◌, ◌≤ℤ◌, ◌≤◌};
 
+use crate::corners::{NO_CORNER, corners_with};
 use crate::points::Point;
+use crate::sawtooth::sawtooth_bound;
+use crate::split::{Split, split_mass};
 use crate::stands::{PointFault, first_fault};
-use game_model::Game;
+use game_model::{Game, MOST_STATES};
 use std::alloc::Global;
 use std::marker::Model;
 
@@ -27,18 +34,21 @@ pub enum PushFault {
 #[derive(Drop)]
 pub struct PointSet {
     points: Vec<Point>,
+    /// For each state the number of its current corner, or the mark for none.
+    corners: [u32; MOST_STATES],
 }
 
 impl Model for PointSet {
-    ghost use Rattle.point_set.specs.Members.{most_points, point_data};
+    ghost use Rattle.point_set.specs.Kept.{AreKept};
+    ghost use Rattle.point_set.specs.Members.{point_data};
     ghost use Rattle.point_set.specs.Points.{PointData};
-    ghost use Rattle.std.specs.Prelude.{List, length, map, ◌≤◌};
+    ghost use Rattle.std.specs.Prelude.{List, map};
 
     ghost Value = { List PointData };
 
     ghost view = { λ set. map point_data set.points.items };
 
-    ghost invariant = { λ set. length set.points.items ≤ most_points };
+    ghost invariant = { λ set. AreKept (map point_data set.points.items) set.corners };
 }
 
 impl PointSet {
@@ -48,6 +58,7 @@ impl PointSet {
     {
         PointSet {
             points: Vec::new(alloc),
+            corners: [NO_CORNER; MOST_STATES],
         }
     }
 
@@ -83,10 +94,60 @@ impl PointSet {
             return Err(PushFault::Full);
         }
         let number = self.points.len() as u32;
+        let corners = corners_with(self.corners, &self.points, &point);
         if self.points.push(point).is_err() {
             return Err(PushFault::OutOfMemory);
         }
+        self.corners = corners;
         Ok(number)
+    }
+
+    /// The current corner of state `s`: the first point of least value among those whose belief is sure of `s`. It takes
+    /// no memory.
+    pub fn corner(&self, s: u32) -> u32
+        requires { HasCorner self.now s }
+        ensures { IsCurrentCorner self.now s result }
+    {
+        self.corners[s as usize]
+    }
+
+    /// The current corners of the first states, by state.
+    fn first_corners(&self, states: usize) -> &[u32]
+        requires few { states ≤ 16 }
+        requires corners { (s : ℕ) → s < states → HasCorner self.now s }
+        ensures count { length result.now ≡ states }
+        ensures current { AreCorners self.now states (λ s. slice_index_or result.now s 0) }
+    {
+        &self.corners[..states]
+    }
+
+    /// The sawtooth bound of a mass, which no plan of player one passes: the least of what the mass costs at the
+    /// current corners alone, and where one point's belief is taken off it as often as it fits and the corners make up
+    /// the rest. It is in units, times the mass. The points fit one game with a point at each corner, and the mass is
+    /// over its states, with a total of at most 2^36 times the row total. It takes no memory.
+    pub fn sawtooth(&self, mass: &[i128]) -> i128
+        requires { AreMeasured self.now mass.now }
+        ensures { IsSawtooth self.now mass.now result }
+    {
+        let corners = self.first_corners(mass.len());
+        sawtooth_bound(&self.points, corners, mass)
+    }
+
+    /// Splits a mass into beliefs of points, by a list of wanted points and weights. The total of the mass is shared
+    /// by the weights. In the order of the list each point takes its belief as often as its share allows and as it
+    /// still fits into what remains of the mass; what remains in the end goes to the current corners. The wanted
+    /// numbers rise, the weights are 0 to 2^30, and at most eight wanted points are no current corner; the mass is as
+    /// for `sawtooth`. It takes no memory.
+    pub fn split_into(&self, wanted: &[(u32, i128)], mass: &[i128], out: &mut Split)
+        requires measured { AreMeasured self.now mass.now }
+        requires wanted { IsWanted self.now (length mass.now) wanted.now }
+        ensures split { IsSplit self.now wanted.now mass.now out.new }
+        ensures makes_up { MakesUp self.now out.new mass.now }
+        ensures inside { AllByRecursion (λ item. item.0 < length self.now) out.new }
+        ensures most { AllByRecursion (λ item. item.1 ≤ℤ sum_of mass.now) out.new }
+    {
+        let corners = self.first_corners(mass.len());
+        split_mass(&self.points, corners, wanted, mass, out);
     }
 
     /// Whether a point stands: None where the split rule and the value rule hold everywhere. Else the first place

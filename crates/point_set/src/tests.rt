@@ -1,12 +1,13 @@
-ghost use Rattle.game_model.specs.Game.{IsWithin, span};
+ghost use Rattle.game_model.specs.Game.{AreCoprime, IsBelief, IsWithin, span};
 ghost use Rattle.point_set.specs.Members.{most_points, point_data};
 ghost use Rattle.point_set.specs.Points.{PointFits, most_share};
+ghost use Rattle.point_set.specs.Sawtooth.{AreMeasured};
 ghost use Rattle.std.specs.List.{AllByRecursion};
-ghost use Rattle.std.specs.Prelude.{IfOk, neg_ℤ, pos, ◌<◌, ◌≡◌};
+ghost use Rattle.std.specs.Prelude.{IfOk, [], neg_ℤ, pos, ◌<◌, ◌∷◌, ◌≡◌};
 
 use crate::{Point, PointFault, PointSet, PushFault, Share};
 use belief::{Belief, Mixes};
-use game_model::{Game, GameBuilder, GameFault, Shape};
+use game_model::{Game, GameBuilder, GameFault, Shape, law_game};
 use std::alloc::{AllocError, Global};
 
 /// Matching pennies in one state, without a future.
@@ -125,4 +126,92 @@ fn a_push_answers_numbers_up_to_1023_and_then_full(rt: HostRuntime) {
     assert!(rt; matches!(set.push(point), Err(PushFault::Full)));
     assert_eq!(rt; set.len(), 1024);
     assert_eq!(rt; set.point(2).value, 2);
+}
+
+/// A game of two states that stay, without a future: the action is paid that is the state.
+fn two_states(alloc: Global) -> Result<Game, GameFault> {
+    let shape = Shape {
+        states: 2,
+        own_actions: 2,
+        informed_actions: 1,
+        observations: 1,
+        row_total: 1,
+        discount: (0, 1),
+    };
+    let mut builder = GameBuilder::new(alloc, shape, &[1, 1])?;
+    for (state, reward) in [(0, 1), (0, 0), (1, 0), (1, 1)] {
+        builder.step(reward)?;
+        builder.landing(0, state, 1)?;
+    }
+    builder.finish()
+}
+
+/// A point of that game without shares.
+fn plain_point(alloc: Global, game: &Game, belief: Belief, value: i128) -> Result<Point, AllocError>
+    requires states { game.now.shape.states ≡ 2 }
+    requires informed { game.now.shape.informed_actions ≡ 1 }
+    requires span { span game.now ≡ 65536 }
+    requires belief { IsBelief 2 belief }
+    requires coprime { AreCoprime belief }
+    requires value { IsWithin (pos 0) (pos 65536) value }
+    ensures fits { IfOk result (λ p. PointFits game.now most_points (point_data p)) }
+    ensures belief { IfOk result (λ p. p.belief ≡ belief) }
+{
+    Ok(Point {
+        belief,
+        value,
+        mixes: Mixes::of(alloc, game, &[65_536, 65_536])?,
+        splits: Vec::new(alloc),
+    })
+}
+
+/// The points at both corners and the even one of that game, each of value 65,536.
+fn three_points(alloc: Global, game: &Game) -> Result<PointSet, AllocError>
+    requires states { game.now.shape.states ≡ 2 }
+    requires informed { game.now.shape.informed_actions ≡ 1 }
+    requires span { span game.now ≡ 65536 }
+    ensures { IfOk result (λ set. AreMeasured set (pos 2 ∷ pos 3 ∷ [])) }
+{
+    law_game(game);
+    let first = plain_point(alloc, game, Belief::corner(2, 0), 65_536)?;
+    let second = plain_point(alloc, game, Belief::corner(2, 1), 65_536)?;
+    let Some(even) = Belief::of(&[1, 1]) else {
+        return Err(AllocError);
+    };
+    let third = plain_point(alloc, game, even, 65_536)?;
+    let mut set = PointSet::new(alloc, game);
+    let Ok(_) = set.push(first) else {
+        return Err(AllocError);
+    };
+    let Ok(_) = set.push(second) else {
+        return Err(AllocError);
+    };
+    let Ok(_) = set.push(third) else {
+        return Err(AllocError);
+    };
+    Ok(set)
+}
+
+#[test]
+fn the_sawtooth_takes_the_even_point_twice(rt: HostRuntime) {
+    let Ok(game) = two_states(rt.alloc()) else {
+        panic!(rt; "the game is refused");
+    };
+    assert_eq!(rt; game.states(), 2);
+    assert_eq!(rt; game.informed_actions(), 1);
+    assert_eq!(rt; game.span(), 65_536);
+    let Ok(mut set) = three_points(rt.alloc(), &game) else {
+        panic!(rt; "out of memory");
+    };
+    assert_eq!(rt; set.corner(0), 0);
+    assert_eq!(rt; set.corner(1), 1);
+    assert_eq!(rt; set.sawtooth(&[2, 3]), 196_608);
+    let Ok(lower) = plain_point(rt.alloc(), &game, Belief::corner(2, 1), 65_535) else {
+        panic!(rt; "out of memory");
+    };
+    let Ok(number) = set.push(lower) else {
+        panic!(rt; "out of memory");
+    };
+    assert_eq!(rt; number, 3);
+    assert_eq!(rt; set.corner(1), 3);
 }
