@@ -3,3 +3,4 @@ pub mod Beliefs
 pub mod Masses
 pub mod Reduced
 pub mod Quotients
+pub mod Sure

@@ -63,6 +63,21 @@ fn mixes_of_matching_pennies_bring_the_whole_mass(rt: HostRuntime) {
 }
 
 #[test]
+fn a_choice_has_the_whole_weight_of_its_state(rt: HostRuntime) {
+    let Ok(game) = pennies(rt.alloc()) else {
+        panic!(rt; "the game is refused");
+    };
+    law_game(&game);
+    assert_eq!(rt; game.states(), 1);
+    assert_eq!(rt; game.informed_actions(), 2);
+    let Ok(mixes) = Mixes::pure(rt.alloc(), &game, &[1]) else {
+        panic!(rt; "out of memory");
+    };
+    assert_eq!(rt; mixes.get(0, 0), 0);
+    assert_eq!(rt; mixes.get(0, 1), 65_536);
+}
+
+#[test]
 fn a_light_mass_is_divided(rt: HostRuntime) {
     let Some(belief) = reduce(&[65_536, 131_072]) else {
         panic!(rt; "the mass is zero everywhere");
