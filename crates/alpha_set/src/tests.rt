@@ -1,11 +1,11 @@
 ghost use Rattle.alpha_set.specs.Members.{most_nodes, node_data};
 ghost use Rattle.alpha_set.specs.Nodes.{NodeFits};
-ghost use Rattle.game_model.specs.Game.{IsWithin, span};
+ghost use Rattle.game_model.specs.Game.{IsMass, IsWithin, span};
 ghost use Rattle.std.specs.List.{AllByRecursion};
 ghost use Rattle.std.specs.Prelude.{IfOk, neg_ℤ, pos, ◌<◌, ◌≡◌};
 
 use crate::{Node, NodeSet, PushFault, Step};
-use game_model::{Game, GameBuilder, GameFault, Shape};
+use game_model::{Game, GameBuilder, GameFault, Shape, law_game};
 use std::alloc::{AllocError, Global};
 
 /// One state, where the informed player pays 3 or 4 at each stage; the discount is a half.
@@ -101,4 +101,81 @@ fn a_push_answers_numbers_up_to_1023_and_then_full(rt: HostRuntime) {
     assert!(rt; matches!(set.push(node), Err(PushFault::Full)));
     assert_eq!(rt; set.len(), 1024);
     assert!(rt; set.node(2).vector.as_slice() == [2].as_slice());
+}
+
+/// Two states without a future, where player one is paid 1.
+fn one_in_two_states(alloc: Global) -> Result<Game, GameFault> {
+    let shape = Shape {
+        states: 2,
+        own_actions: 1,
+        informed_actions: 1,
+        observations: 1,
+        row_total: 1,
+        discount: (0, 1),
+    };
+    let mut builder = GameBuilder::new(alloc, shape, &[1, 1])?;
+    for reward in [1, 1] {
+        builder.step(reward)?;
+        builder.landing(0, 0, 1)?;
+    }
+    builder.finish()
+}
+
+/// The node of these entries that goes on with node 0.
+fn node_of_two(alloc: Global, game: &Game, first: i128, second: i128) -> Result<Node, AllocError>
+    requires states { game.now.shape.states ≡ 2 }
+    requires own { game.now.shape.own_actions ≡ 1 }
+    requires seen { game.now.shape.observations ≡ 1 }
+    requires span { span game.now ≡ 65536 }
+    requires first { IsWithin (neg_ℤ (pos 65536)) (pos 65536) first }
+    requires second { IsWithin (neg_ℤ (pos 65536)) (pos 65536) second }
+    ensures { IfOk result (λ n. NodeFits game.now most_nodes (node_data n)) }
+{
+    let vector = vec![in alloc; first, second]?;
+    let mix = vec![in alloc; 65_536]?;
+    let step = Step {
+        a: 0,
+        o: 0,
+        k: 0,
+        weight: 65_536,
+    };
+    let next = vec![in alloc; step]?;
+    Ok(Node { vector, mix, next })
+}
+
+/// What two nodes are worth at a mass, where each is worth a unit in one state and nothing in the other.
+fn worth_of_two(alloc: Global, game: &Game, mass: &[i128]) -> Result<(i128, u32), AllocError>
+    requires states { game.now.shape.states ≡ 2 }
+    requires own { game.now.shape.own_actions ≡ 1 }
+    requires seen { game.now.shape.observations ≡ 1 }
+    requires span { span game.now ≡ 65536 }
+    requires mass { IsMass game.now mass.now }
+{
+    law_game(game);
+    let first = node_of_two(alloc, game, 65_536, 0)?;
+    let second = node_of_two(alloc, game, 0, 65_536)?;
+    let mut set = NodeSet::new(alloc, game);
+    let Ok(_) = set.push(first) else {
+        return Err(AllocError);
+    };
+    let Ok(_) = set.push(second) else {
+        return Err(AllocError);
+    };
+    Ok(set.worth(mass))
+}
+
+#[test]
+fn the_first_of_equal_nodes_is_worth_the_most(rt: HostRuntime) {
+    let Ok(game) = one_in_two_states(rt.alloc()) else {
+        panic!(rt; "the game is refused");
+    };
+    assert_eq!(rt; game.states(), 2);
+    assert_eq!(rt; game.own_actions(), 1);
+    assert_eq!(rt; game.observations(), 1);
+    assert_eq!(rt; game.row_total(), 1);
+    assert_eq!(rt; game.span(), 65_536);
+    let equal = worth_of_two(rt.alloc(), &game, &[1, 1]);
+    assert!(rt; matches!(equal, Ok((65_536, 0))));
+    let second = worth_of_two(rt.alloc(), &game, &[1, 2]);
+    assert!(rt; matches!(second, Ok((131_072, 1))));
 }

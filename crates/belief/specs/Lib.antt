@@ -2,3 +2,5 @@ pub mod Mixes
 pub mod Beliefs
 pub mod Masses
 pub mod Reduced
+pub mod Quotients
+pub mod Sure

@@ -2,12 +2,11 @@ ghost use Rattle.belief.specs.Beliefs.{AreParts, corner_of};
 ghost use Rattle.game_model.specs.Game.{AreCoprime, IsBelief, IsWithin};
 ghost use Rattle.scaled_num.specs.Sums.{sum_of};
 ghost use Rattle.std.specs.Bool.{IsTrue};
-ghost use Rattle.std.specs.Int.{◌∣◌};
 ghost use Rattle.std.specs.List.{AllByRecursion};
-ghost use Rattle.std.specs.Prelude.{IfSome, IsSome, length, pos, unsigned_abs, ℕ, ◌<◌, ◌^◌, ◌↔◌, ◌≡◌, ◌≤◌};
+ghost use Rattle.std.specs.Prelude.{IfSome, IsSome, length, pos, ◌<◌, ◌^◌, ◌↔◌, ◌≡◌, ◌≤ℤ◌, ◌≤◌};
 
+use crate::divisors::common_divisor;
 use game_model::{Game, MOST_BELIEF, MOST_STATES, law_game};
-use scaled_num::gcd;
 use std::marker::Model;
 
 /// A belief: coprime whole weights of the states, none negative, with a total of 1 to 2^20.
@@ -45,7 +44,7 @@ impl Belief {
     }
 
     /// The belief with these parts.
-    fn of_parts(parts: &[i128]) -> Belief
+    pub(crate) fn of_parts(parts: &[i128]) -> Belief
         requires { AreParts parts.now }
         ensures { result ≡ parts.now }
     {
@@ -128,10 +127,10 @@ fn is_total(total: i128) -> bool
     1 <= total && total <= MOST_BELIEF
 }
 
-/// The sum of weights.
-fn sum(weights: &[i128]) -> i128
-    requires each { AllByRecursion (IsWithin (pos 0) (pos (2 ^ 20))) weights.now }
-    requires few { length weights.now ≤ 16 }
+/// The sum of weights that are not negative.
+pub fn sum(weights: &[i128]) -> i128
+    requires each { AllByRecursion (λ x. pos 0 ≤ℤ x) weights.now }
+    requires most { sum_of weights.now ≤ℤ pos (2 ^ 100) }
     ensures { result ≡ sum_of weights.now }
 {
     let mut sum = 0;
@@ -147,17 +146,4 @@ fn are_coprime(weights: &[i128]) -> bool
     ensures { IsTrue result ↔ AreCoprime weights.now }
 {
     common_divisor(weights) == 1
-}
-
-/// The greatest common divisor of weights.
-fn common_divisor(weights: &[i128]) -> u128
-    requires { AllByRecursion (IsWithin (pos 0) (pos (2 ^ 20))) weights.now }
-    ensures divides { AllByRecursion (λ x. result ∣ unsigned_abs x) weights.now }
-    ensures greatest { (d : ℕ) → AllByRecursion (λ x. d ∣ unsigned_abs x) weights.now → d ∣ result }
-{
-    let mut divisor = 0;
-    for weight in weights {
-        divisor = gcd(divisor, *weight as u128);
-    }
-    divisor
 }

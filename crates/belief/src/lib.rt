@@ -2,11 +2,14 @@
 #![tactic(auto)]
 
 mod beliefs;
+mod divisors;
 mod masses;
 mod mixes;
+mod reduced;
 #[cfg(test)]
 mod tests;
 
 pub use beliefs::Belief;
 pub use masses::mass;
 pub use mixes::Mixes;
+pub use reduced::reduce;

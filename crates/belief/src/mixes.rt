@@ -1,11 +1,12 @@
 ghost use Rattle.belief.specs.Beliefs.{AreKept, mixes_for};
 ghost use Rattle.belief.specs.Mixes.{AreMixes, mix_at, pure_mixes};
+ghost use Rattle.belief.specs.Sure.{sure};
 ghost use Rattle.game_model.specs.Branches.{mix_total};
 ghost use Rattle.game_model.specs.Game.{IsWithin};
 ghost use Rattle.std.specs.List.{AllByRecursion};
-ghost use Rattle.std.specs.Prelude.{IfOk, length, pos, ◌<◌, ◌≡◌};
+ghost use Rattle.std.specs.Prelude.{IfOk, flat_map, length, pos, replicate, ◌*◌, ◌<◌, ◌≡◌, ◌≤◌};
 
-use game_model::{Game, law_game};
+use game_model::{Game, MIX_TOTAL, law_game};
 use std::alloc::{AllocError, Global};
 use std::marker::Model;
 
@@ -58,7 +59,15 @@ impl Mixes {
         requires actions { AllByRecursion (λ chosen. chosen < game.now.shape.informed_actions) choice.now }
         ensures { IfOk result (λ mixes. mixes ≡ pure_mixes game.now choice.now) }
     {
-        Err(AllocError)
+        law_game(game);
+        let actions = game.informed_actions();
+        let mut weights = vec![in alloc; 0; choice.len() * actions as usize]?;
+        choose(choice, actions as usize, &mut weights);
+        Ok(Mixes {
+            states: game.states(),
+            actions,
+            weights,
+        })
     }
 
     /// The number of states.
@@ -100,5 +109,18 @@ impl Mixes {
             actions: self.actions,
             weights: self.weights.clone()?,
         })
+    }
+}
+
+/// Puts the whole weight of each state on its chosen action.
+fn choose(choice: &[u32], actions: usize, weights: &mut [i128])
+    requires few { length choice.now ≤ 16 }
+    requires small { actions ≤ 6 }
+    requires chosen { AllByRecursion (λ chosen. chosen < actions) choice.now }
+    requires zeros { weights.old ≡ replicate (length choice.now * actions) (pos 0) }
+    ensures { weights.new ≡ flat_map (sure actions) choice.now }
+{
+    for (s, chosen) in choice.iter().enumerate() {
+        weights[s * actions + *chosen as usize] = MIX_TOTAL;
     }
 }

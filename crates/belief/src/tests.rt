@@ -1,4 +1,4 @@
-use crate::{Belief, Mixes, mass};
+use crate::{Belief, Mixes, mass, reduce};
 use game_model::{Game, GameBuilder, GameFault, Shape, law_game};
 use std::alloc::Global;
 
@@ -60,4 +60,40 @@ fn mixes_of_matching_pennies_bring_the_whole_mass(rt: HostRuntime) {
     let mut out = [7];
     mass(&game, &belief, &mixes, 0, 0, &mut out);
     assert_eq!(rt; out[0], 65_536);
+}
+
+#[test]
+fn a_choice_has_the_whole_weight_of_its_state(rt: HostRuntime) {
+    let Ok(game) = pennies(rt.alloc()) else {
+        panic!(rt; "the game is refused");
+    };
+    law_game(&game);
+    assert_eq!(rt; game.states(), 1);
+    assert_eq!(rt; game.informed_actions(), 2);
+    let Ok(mixes) = Mixes::pure(rt.alloc(), &game, &[1]) else {
+        panic!(rt; "out of memory");
+    };
+    assert_eq!(rt; mixes.get(0, 0), 0);
+    assert_eq!(rt; mixes.get(0, 1), 65_536);
+}
+
+#[test]
+fn a_light_mass_is_divided(rt: HostRuntime) {
+    let Some(belief) = reduce(&[65_536, 131_072]) else {
+        panic!(rt; "the mass is zero everywhere");
+    };
+    assert!(rt; belief.parts() == [1, 2].as_slice());
+}
+
+#[test]
+fn a_heavy_mass_is_shared_out_and_divided_again(rt: HostRuntime) {
+    let Some(belief) = reduce(&[1, 1_048_576]) else {
+        panic!(rt; "the mass is zero everywhere");
+    };
+    assert!(rt; belief.parts() == [0, 1].as_slice());
+}
+
+#[test]
+fn a_zero_mass_is_no_belief(rt: HostRuntime) {
+    assert!(rt; reduce(&[0, 0]).is_none());
 }

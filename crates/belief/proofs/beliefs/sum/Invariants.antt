@@ -1,5 +1,10 @@
-use Rattle.game_model.proofs.Sizes.{SumSoFar}
+use Rattle.std.proofs.Common.{◌≡◌, drop}
+use Rattle.std.specs.Prelude.{pos, ◌+ℤ◌, ◌≤ℤ◌}
+use Rattle.scaled_num.specs.Sums.{sum_of}
 use Rattle.belief.proofs.beliefs.sum.Given as goal
 
 abbrev pub invariant-loop-weight : goal.invariant-loop-weight
-invariant-loop-weight l = SumSoFar l.weights l.weight-index l.sum
+invariant-loop-weight l = record {
+  rest : l.sum +ℤ sum_of (drop l.weight-index l.weights) ≡ sum_of l.weights;
+  none_negative : pos 0 ≤ℤ l.sum;
+}

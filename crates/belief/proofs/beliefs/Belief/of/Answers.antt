@@ -1,8 +1,9 @@
-use Rattle.std.proofs.Common.{rules, refl, ◌^◌, subst}
+use Rattle.std.proofs.Common.{arith, rules, refl, ◌^◌, subst}
 use Rattle.std.specs.Prelude.{pos, FitsSigned}
 use Rattle.std.specs.Int.{w128}
-use Rattle.std.proofs.lemmas.Int.{to_z-of_z}
+use Rattle.std.proofs.lemmas.Int.{ints, to_z-of_z}
 use Rattle.game_model.specs.Game.{IsWithin}
+use Rattle.belief.proofs.Lowest.{weights-sum}
 use Rattle.belief.proofs.beliefs.Belief.of.Goals as goal
 
 pub of_parts-requires : goal.of_parts-requires
@@ -24,3 +25,6 @@ returns-then-are_coprime-clause-exactly c =
     let fits : FitsSigned w128 c.sum.result = search rules in
     let sums : IsWithin (pos 1) (pos (2 ^ 20)) c.sum.result = simp to_z-of_z at (c.is_total.ensures.0 c.if-is_total.true) in
     (λ _. (record { long = refl; each = c.are_weights.ensures.0 c.if-are_weights.true; sums = subst (IsWithin (pos 1) (pos (2 ^ 20))) c.sum.ensures sums }, c.are_coprime.ensures.0 c.if-are_coprime.true), λ _. refl)
+
+pub sum-requires-clause-most : goal.sum-requires-clause-most
+sum-requires-clause-most c = omega (arith, ints, weights-sum c.args.parts.now (c.are_weights.ensures.0 c.if-are_weights.true))
