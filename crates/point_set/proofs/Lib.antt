@@ -4,3 +4,6 @@ pub mod Named
 pub mod Masses
 pub mod Worth
 pub mod Fitting
+pub mod Items
+pub mod Counted
+pub mod Taking

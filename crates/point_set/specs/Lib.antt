@@ -4,3 +4,4 @@ pub mod Faults
 pub mod Corners
 pub mod Sawtooth
 pub mod Split
+pub mod Takes

@@ -2,13 +2,18 @@
 #![tactic(auto)]
 
 mod points;
+mod sawtooth;
 mod sets;
+mod split;
 mod splits;
 mod stands;
+mod takes;
 #[cfg(test)]
 mod tests;
+mod times;
 mod values;
 
 pub use points::{Point, Share};
 pub use sets::{MOST_POINTS, PointSet, PushFault};
+pub use split::{MOST_ITEMS, Split};
 pub use stands::PointFault;

@@ -1,11 +1,16 @@
+ghost use Rattle.point_set.specs.Corners.{HasCorner, IsCurrentCorner};
 ghost use Rattle.point_set.specs.Faults.{FailsFirst};
 ghost use Rattle.point_set.specs.Members.{most_points, point_data};
 ghost use Rattle.point_set.specs.Points.{PointFits, PointStands, no_point, points_of};
+ghost use Rattle.point_set.specs.Sawtooth.{AreMeasured, IsSawtooth};
+ghost use Rattle.point_set.specs.Split.{IsSplit, IsWanted, MakesUp};
 ghost use Rattle.game_model.specs.Game.{numbers};
+ghost use Rattle.scaled_num.specs.Sums.{sum_of};
 ghost use Rattle.std.specs.List.{AllByRecursion};
-ghost use Rattle.std.specs.Prelude.{IfOk, IfSome, IsErrOf, IsNone, OnErr, OnOk, [], length, slice_index_or, ◌++◌, ◌<◌, ◌↔◌, ◌∷◌, ◌≡◌, ◌≤◌};
+ghost use Rattle.std.specs.Prelude.{IfOk, IfSome, IsErrOf, IsNone, OnErr, OnOk, [], length, slice_index_or, ◌++◌, ◌<◌, ◌↔◌, ◌∷◌, ◌≡◌, ◌≤ℤ◌, ◌≤◌};
 
 use crate::points::Point;
+use crate::split::Split;
 use crate::stands::{PointFault, first_fault};
 use game_model::Game;
 use std::alloc::Global;
@@ -87,6 +92,41 @@ impl PointSet {
             return Err(PushFault::OutOfMemory);
         }
         Ok(number)
+    }
+
+    /// The current corner of state `s`: the first point of least value among those whose belief is sure of `s`. It takes
+    /// no memory.
+    pub fn corner(&self, s: u32) -> u32
+        requires { HasCorner self.now s }
+        ensures { IsCurrentCorner self.now s result }
+    {
+        0
+    }
+
+    /// The sawtooth bound of a mass, which no plan of player one passes: the least of what the mass costs at the
+    /// current corners alone, and where one point's belief is taken off it as often as it fits and the corners make up
+    /// the rest. It is in units, times the mass. The points fit one game with a point at each corner, and the mass is
+    /// over its states, with a total of at most 2^36 times the row total. It takes no memory.
+    pub fn sawtooth(&self, mass: &[i128]) -> i128
+        requires { AreMeasured self.now mass.now }
+        ensures { IsSawtooth self.now mass.now result }
+    {
+        0
+    }
+
+    /// Splits a mass into beliefs of points, by a list of wanted points and weights. The total of the mass is shared
+    /// by the weights. In the order of the list each point takes its belief as often as its share allows and as it
+    /// still fits into what remains of the mass; what remains in the end goes to the current corners. The wanted
+    /// numbers rise, the weights are 0 to 2^30, and at most eight wanted points are no current corner; the mass is as
+    /// for `sawtooth`. It takes no memory.
+    pub fn split_into(&self, wanted: &[(u32, i128)], mass: &[i128], out: &mut Split)
+        requires measured { AreMeasured self.now mass.now }
+        requires wanted { IsWanted self.now (length mass.now) wanted.now }
+        ensures split { IsSplit self.now wanted.now mass.now out.new }
+        ensures makes_up { MakesUp self.now out.new mass.now }
+        ensures inside { AllByRecursion (λ item. item.0 < length self.now) out.new }
+        ensures most { AllByRecursion (λ item. item.1 ≤ℤ sum_of mass.now) out.new }
+    {
     }
 
     /// Whether a point stands: None where the split rule and the value rule hold everywhere. Else the first place
