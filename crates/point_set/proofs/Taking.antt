@@ -1,16 +1,19 @@
 -- What a belief takes off a mass, and the takes of several points in order.
-use Rattle.std.proofs.Common.{◌≡◌, ℕ, zero, suc, ◌+◌, ◌*◌, ◌^◌, ◌<◌, ◌≤◌, cond, ◌==◌, List, [], ◌∷◌, ◌++◌, length, get_or, map, take, refl, ap, arith, sym, subst, ◌∙◌}
-use Rattle.std.specs.Prelude.{ℤ, pos, negsuc, ◌+ℤ◌, ◌-ℤ◌, ◌*ℤ◌, ◌≤ℤ◌, ◌<ℤ◌}
+use Rattle.std.proofs.Common.{◌≡◌, ℕ, zero, suc, ◌+◌, ◌*◌, ◌^◌, ◌<◌, ◌≤◌, cond, ◌==◌, List, [], ◌∷◌, ◌++◌, length, get_or, map, set, take, below_more, refl, ap, arith, sym, subst, ◌∙◌}
+use Rattle.std.specs.Prelude.{ℤ, pos, negsuc, ◌+ℤ◌, ◌-ℤ◌, ◌*ℤ◌, ◌≤ℤ◌, ◌<ℤ◌, FitsSigned}
+use Rattle.std.specs.Int.{w128}
+use Rattle.std.proofs.lemmas.Nat.{mul-le}
 use Rattle.std.specs.List.{AllByRecursion}
 use Rattle.std.proofs.lemmas.Int.{ints, by_lt_z}
-use Rattle.std.proofs.lemmas.List.{ext_get_or, map-append}
+use Rattle.std.proofs.lemmas.List.{ext_get_or, get_or-set_other, get_or-set_same, length-set, map-append}
 use Rattle.std.proofs.lemmas.List.FromFn.{get_or-map-range_with_len, length-map-range_with_len}
 use Rattle.scaled_num.specs.Share.{at}
 use Rattle.scaled_num.specs.Sums.{below, sum_of, total}
-use Rattle.scaled_num.proofs.Floors.{at_le_sum, cancel, product_le, product_none_negative}
+use Rattle.scaled_num.proofs.Floors.{NoneNegative, at_le_sum, cancel, product_le, product_none_negative, small_fits}
 use Rattle.scaled_num.proofs.Products.{add-mulℤ, sums}
-use Rattle.scaled_num.proofs.Sums.{total-append, total-below-le, total-places}
+use Rattle.scaled_num.proofs.Sums.{each-at, each-map, total-append, total-below-le, total-places}
 use Rattle.game_model.proofs.Front.{each-by-place}
+use Rattle.game_model.proofs.Pay.{each-from}
 use Rattle.game_model.specs.Game.{IsBelief, IsWithin}
 use Rattle.point_set.specs.Corners.{point_at}
 use Rattle.point_set.specs.Points.{PointData}
@@ -195,3 +198,156 @@ taken-more points numbers shares mass rest items next k share times h most weigh
   where
     alone : (a : ℤ) → a +ℤ pos 0 ≡ a
     alone a = omega (arith, sums)
+
+-- products fit
+pub product-within : (a b : ℤ) (m n : ℕ) → IsWithin (pos 0) (pos m) a → IsWithin (pos 0) (pos n) b → IsWithin (pos 0) (pos (m * n)) (a *ℤ b)
+product-within (pos k) (pos l) m n h i =
+    let k_small : k ≤ m = small k m h.1 in
+    let l_small : l ≤ n = small l n i.1 in
+    (omega (arith, ints), omega (arith, ints, mul-le k l m n k_small l_small))
+  where
+    small : (k m : ℕ) → pos k ≤ℤ pos m → k ≤ m
+    small k m h = omega (arith, ints)
+product-within (negsuc k) b m n h i = absurd (omega (arith, ints, h.0))
+product-within (pos k) (negsuc l) m n h i = absurd (omega (arith, ints, i.0))
+
+pub product-fits : (a b : ℤ) → IsWithin (pos 0) (pos (2 ^ 66)) a → IsWithin (pos 0) (pos (2 ^ 20)) b → FitsSigned w128 (a *ℤ b)
+product-fits a b h i =
+    let both = product-within a b (2 ^ 66) (2 ^ 20) h i in
+    small_fits (a *ℤ b) both.0 (wide (a *ℤ b) both.1)
+  where
+    wide : (x : ℤ) → x ≤ℤ pos (2 ^ 66 * 2 ^ 20) → x ≤ℤ pos (2 ^ 126)
+    wide x h = omega (arith, ints)
+
+-- the first places of a mass less so many times a belief
+pub record LessSoFar (mass belief : List ℤ) (times : ℤ) (i : ℕ) (rest : List ℤ) : Type 0 where
+  pub long : length rest ≡ length mass
+  pub before : (k : ℕ) → k < i → at rest k ≡ at mass k -ℤ times *ℤ at belief k
+  pub after : (k : ℕ) → i ≤ k → at rest k ≡ at mass k
+
+pub less-start : (mass belief : List ℤ) (times : ℤ) → LessSoFar mass belief times 0 mass
+less-start mass belief times = record { long = refl; before = λ k l. absurd (omega arith); after = λ k l. refl }
+
+pub less-next : (mass belief : List ℤ) (times : ℤ) (i : ℕ) (rest : List ℤ) → LessSoFar mass belief times i rest → i < length rest → LessSoFar mass belief times (i + 1) (set rest i (at rest i -ℤ times *ℤ at belief i))
+less-next mass belief times i rest h l =
+    let x : ℤ = at rest i -ℤ times *ℤ at belief i in
+    record {
+      long = length-set rest i x ∙ h.long;
+      before = below_more (λ k. at (set rest i x) k ≡ at mass k -ℤ times *ℤ at belief k) i
+          (λ k m. get_or-set_other rest i k x (pos 0) (λ e. omega arith) ∙ h.before k m)
+          (get_or-set_same rest i x (pos 0) l ∙ ap (λ z. z -ℤ times *ℤ at belief i) (h.after i (same i)));
+      after = λ k m. get_or-set_other rest i k x (pos 0) (λ e. omega arith) ∙ h.after k (omega arith);
+    }
+  where
+    same : (i : ℕ) → i ≤ i
+    same i = omega arith
+
+pub less-skip : (mass belief : List ℤ) (times : ℤ) (i : ℕ) (rest : List ℤ) → LessSoFar mass belief times i rest → pos 0 ≤ℤ at belief i → at belief i ≤ℤ pos 0 → LessSoFar mass belief times (i + 1) rest
+less-skip mass belief times i rest h low high = record {
+  long = h.long;
+  before = below_more (λ k. at rest k ≡ at mass k -ℤ times *ℤ at belief k) i h.before (h.after i (same i) ∙ nothing (at mass i) times (at belief i) (zero-only (at belief i) low high));
+  after = λ k m. h.after k (omega arith);
+}
+  where
+    same : (i : ℕ) → i ≤ i
+    same i = omega arith
+
+    zero-only : (b : ℤ) → pos 0 ≤ℤ b → b ≤ℤ pos 0 → b ≡ pos 0
+    zero-only (pos zero) p q = refl
+    zero-only (pos (suc n)) p q = absurd (omega (arith, ints))
+    zero-only (negsuc n) p q = absurd (omega (arith, ints))
+
+    nothing : (a t b : ℤ) → b ≡ pos 0 → a ≡ a -ℤ t *ℤ b
+    nothing a t b e = rw e (omega (arith, ints))
+
+pub less-all : (mass belief : List ℤ) (times : ℤ) (i : ℕ) (rest : List ℤ) → LessSoFar mass belief times i rest → length mass ≤ i → rest ≡ less_times mass belief times
+less-all mass belief times i rest h l = is-less mass belief rest times h.long (λ s m. h.before s (omega arith))
+
+-- the numbers of one place fit
+pub record PlaceFits (times part rest : ℤ) : Type 0 where
+  pub part_fits : FitsSigned w128 part
+  pub times_fits : FitsSigned w128 times
+  pub rest_fits : FitsSigned w128 rest
+  pub product_fits : FitsSigned w128 (times *ℤ part)
+  pub less_fits : FitsSigned w128 (rest -ℤ times *ℤ part)
+
+pub place-fits : (mass belief : List ℤ) (times : ℤ) (i : ℕ) (rest : List ℤ) → IsBelief (length mass) belief → AllByRecursion (λ x. pos 0 ≤ℤ x) mass → sum_of mass ≤ℤ pos (2 ^ 66) → pos 0 ≤ℤ times → FitsTimes mass belief times →
+    LessSoFar mass belief times i rest → i < length belief → PlaceFits times (at belief i) (at rest i)
+place-fits mass belief times i rest h none sum low fits so l =
+    let here : i < length mass = subst (λ (n : ℕ). i < n) h.long l in
+    let part = each-at (IsWithin (pos 0) (pos (2 ^ 20))) (pos 0) belief i h.each l in
+    let most : at mass i ≤ℤ pos (2 ^ 66) = through (at mass i) (sum_of mass) (pos (2 ^ 66)) (at_le_sum mass i (by-recursion (λ x. pos 0 ≤ℤ x) mass none) here) sum in
+    let floor : pos 0 ≤ℤ at mass i = by-recursion (λ x. pos 0 ≤ℤ x) mass none i (pos 0) here in
+    let product : pos 0 ≤ℤ (times *ℤ at belief i) = product_none_negative times (at belief i) low part.0 in
+    let is : at rest i ≡ at mass i = so.after i (same i) in
+    record {
+      part_fits = small (at belief i) part.0 part.1;
+      times_fits = wide times low (through times (sum_of mass) (pos (2 ^ 66)) (times-most mass belief times h none low fits) sum);
+      rest_fits = subst (FitsSigned w128) (sym is) (wide (at mass i) floor most);
+      product_fits = wide (times *ℤ at belief i) product (through (times *ℤ at belief i) (at mass i) (pos (2 ^ 66)) (fits i here) most);
+      less_fits = subst (λ (z : ℤ). FitsSigned w128 (z -ℤ times *ℤ at belief i)) (sym is) (less (at mass i) (times *ℤ at belief i) (fits i here) product most);
+    }
+  where
+    same : (i : ℕ) → i ≤ i
+    same i = omega arith
+
+    through : (a b c : ℤ) → a ≤ℤ b → b ≤ℤ c → a ≤ℤ c
+    through a b c p q = omega (arith, ints)
+
+    small : (a : ℤ) → pos 0 ≤ℤ a → a ≤ℤ pos (2 ^ 20) → FitsSigned w128 a
+    small a p q = small_fits a p (through a (pos (2 ^ 20)) (pos (2 ^ 126)) q (omega (arith, ints)))
+
+    wide : (a : ℤ) → pos 0 ≤ℤ a → a ≤ℤ pos (2 ^ 66) → FitsSigned w128 a
+    wide a p q = small_fits a p (through a (pos (2 ^ 66)) (pos (2 ^ 126)) q (omega (arith, ints)))
+
+    less : (a b : ℤ) → b ≤ℤ a → pos 0 ≤ℤ b → a ≤ℤ pos (2 ^ 66) → FitsSigned w128 (a -ℤ b)
+    less a b p q r = wide (a -ℤ b) (omega (arith, ints)) (omega (arith, ints))
+
+-- what is known of a take
+pub record TakesWell (mass belief : List ℤ) (share times few : ℤ) : Type 0 where
+  pub times_within : IsWithin (pos 0) (pos (2 ^ 66)) times
+  pub most : TakesMost mass belief share few
+  pub within : IsWithin (pos 0) (pos (2 ^ 66)) few
+
+pub takes-well : (mass belief parts : List ℤ) (share times few whole : ℤ) → IsBelief (length mass) belief → AllByRecursion (λ x. pos 0 ≤ℤ x) mass → sum_of mass ≤ℤ pos (2 ^ 66) → parts ≡ belief → whole ≡ sum_of belief →
+    IsMostTimes mass parts times → IsLesser times share whole few → TakesWell mass belief share times few
+takes-well mass belief parts share times few whole h none sum same e most lesser =
+    let m : IsMostTimes mass belief times = subst (λ (ps : List ℤ). IsMostTimes mass ps times) same most in
+    let within : IsWithin (pos 0) (pos (2 ^ 66)) times = times-within mass belief times (2 ^ 66) h none sum m in
+    record {
+      times_within = within;
+      most = takes-most mass belief share times few whole h e m lesser;
+      within = (lesser.low, through few times (pos (2 ^ 66)) lesser.upto within.1);
+    }
+  where
+    through : (a b c : ℤ) → a ≤ℤ b → b ≤ℤ c → a ≤ℤ c
+    through a b c p q = omega (arith, ints)
+
+-- the weights of wanted points
+abbrev weight : ℕ × ℤ → ℤ
+weight want = want.1
+
+pub weights-each : (wanted : List (ℕ × ℤ)) → AllByRecursion (λ want. IsWithin (pos 0) (pos (2 ^ 30)) want.1) wanted → AllByRecursion (λ x. pos 0 ≤ℤ x) (map (λ want. want.1) wanted)
+weights-each wanted h = each-map (λ x. pos 0 ≤ℤ x) weight wanted (each-from (λ (want : ℕ × ℤ). IsWithin (pos 0) (pos (2 ^ 30)) want.1) (λ want. pos 0 ≤ℤ want.1) wanted (λ x w. w.0) h)
+
+weights-upto : (wanted : List (ℕ × ℤ)) → AllByRecursion (λ want. IsWithin (pos 0) (pos (2 ^ 30)) want.1) wanted → IsWithin (pos 0) (pos (length wanted * 2 ^ 30)) (sum_of (map (λ want. want.1) wanted))
+weights-upto [] h = (omega (arith, ints), omega (arith, ints))
+weights-upto (x ∷ xs) h =
+    let rest = weights-upto xs h.1 in
+    both x.1 (sum_of (map weight xs)) (length xs) h.0.0 h.0.1 rest.0 rest.1
+  where
+    both : (a b : ℤ) (n : ℕ) → pos 0 ≤ℤ a → a ≤ℤ pos (2 ^ 30) → pos 0 ≤ℤ b → b ≤ℤ pos (n * 2 ^ 30) → IsWithin (pos 0) (pos (suc n * 2 ^ 30)) (a +ℤ b)
+    both a b n p q r s = (omega (arith, ints), omega (arith, ints))
+
+pub weights-sum : (wanted : List (ℕ × ℤ)) → AllByRecursion (λ want. IsWithin (pos 0) (pos (2 ^ 30)) want.1) wanted → length wanted ≤ 24 → IsWithin (pos 0) (pos (24 * 2 ^ 30)) (sum_of (map (λ want. want.1) wanted))
+weights-sum wanted h l = let upto = weights-upto wanted h in (upto.0, more (sum_of (map weight wanted)) (length wanted) l upto.1)
+  where
+    more : (a : ℤ) (n : ℕ) → n ≤ 24 → a ≤ℤ pos (n * 2 ^ 30) → a ≤ℤ pos (24 * 2 ^ 30)
+    more a n l h = omega (arith, ints)
+
+-- each share of a total is at most the total
+pub shares-within : (shares : List ℤ) (most : ℕ) (whole : ℤ) → NoneNegative shares → sum_of shares ≡ whole → whole ≤ℤ pos most → AllByRecursion (IsWithin (pos 0) (pos most)) shares
+shares-within shares most whole none e h = each-by-place (IsWithin (pos 0) (pos most)) (pos 0) shares (λ i l. (none i (pos 0) l, through (at shares i) (sum_of shares) whole (pos most) (at_le_sum shares i none l) e h))
+  where
+    through : (a b c d : ℤ) → a ≤ℤ b → b ≡ c → c ≤ℤ d → a ≤ℤ d
+    through a b c d p q r = omega (arith, ints)

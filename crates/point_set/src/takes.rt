@@ -76,7 +76,8 @@ pub fn take(belief: &Belief, share: i128, rest: &mut [i128]) -> i128
 fn allowed(times: i128, share: i128, total: i128) -> i128
     requires times { IsWithin (pos 0) (pos (2 ^ 66)) times }
     requires share { IsWithin (pos 0) (pos (2 ^ 66)) share }
-    requires total { IsWithin (pos 1) (pos (2 ^ 20)) total }
+    requires low { pos 1 ≤ℤ total }
+    requires total { IsWithin (pos 0) (pos (2 ^ 20)) total }
     ensures { IsLesser times share total result }
 {
     if times * total <= share {
