@@ -7,3 +7,4 @@ pub mod Fitting
 pub mod Items
 pub mod Counted
 pub mod Taking
+pub mod Placing

@@ -1,5 +1,6 @@
 -- A split on its way: items with one more weight, and what remains of the mass.
-use Rattle.std.specs.Prelude.{ℕ, ℤ, pos, Bool, List, [], ◌∷◌, cond, filter, length, map, not, ◌≡◌, ◌<◌, ◌≤◌, ◌^◌, ◌==◌, ◌+ℤ◌, ◌*ℤ◌, ◌≤ℤ◌, ltb}
+use Rattle.std.specs.Prelude.{ℕ, zero, suc, ℤ, pos, Bool, List, [], ◌∷◌, cond, filter, length, map, not, ◌≡◌, ◌<◌, ◌≤◌, ◌^◌, ◌==◌, ◌+ℤ◌, ◌*ℤ◌, ◌≤ℤ◌, ltb, slice_index_or}
+use Rattle.std.specs.Int.Signed.{lt_z}
 use Rattle.std.specs.List.{AllByRecursion}
 use Rattle.scaled_num.specs.Share.{at}
 use Rattle.scaled_num.specs.Sums.{below, sum_of, total}
@@ -40,17 +41,21 @@ pub record AreTaken (points : List PointData) (numbers : List ℕ) (shares mass 
   pub taken : AreTakes points mass takes rest
   pub weights : (k : ℕ) → weight_of items k ≡ total (λ t. cond (t.number == k) t.times (pos 0)) takes
 
--- what is left of a mass once so many first corners were given their part
-abbrev pub left_from : ℕ → List ℤ → ℕ → ℤ
-left_from given rest s = cond (ltb s given) (pos 0) (at rest s)
-
--- what the first corners were given under a number
-abbrev pub given : (ℕ → ℕ) → List ℤ → ℕ → ℕ → ℤ
-given corners rest states k = total (λ s. cond (corners s == k) (at rest s) (pos 0)) (below states)
-
 -- the greatest number of times that is at most this one and whose product with a total is at most a share
 pub record IsLesser (times share whole result : ℤ) : Type 0 where
   pub low : pos 0 ≤ℤ result
   pub upto : result ≤ℤ times
   pub allowed : (result *ℤ whole) ≤ℤ share
   pub most : (more : ℤ) → more ≤ℤ times → (more *ℤ whole) ≤ℤ share → more ≤ℤ result
+
+-- smaller numbers stand before the place, and none from it on
+pub record IsPlace (k : ℕ) (items : List (ℕ × ℤ)) (place : ℕ) : Type 0 where
+  pub upto : place ≤ length items
+  pub below : (j : ℕ) → j < place → (slice_index_or items j (0, pos 0)).0 < k
+  pub above : place < length items → k ≤ (slice_index_or items place (0, pos 0)).0
+
+-- items with what remains of a mass in so many first states, under the numbers of their current corners
+abbrev pub with_rests : (ℕ → ℕ) → List ℤ → List (ℕ × ℤ) → ℕ → List (ℕ × ℤ)
+with_rests corners rest items zero = items
+with_rests corners rest items (suc s) =
+    cond (lt_z (pos 0) (at rest s)) (inserted (corners s) (at rest s) (with_rests corners rest items s)) (with_rests corners rest items s)

@@ -1,7 +1,7 @@
 ghost use Rattle.point_set.specs.Members.{data_of};
 ghost use Rattle.point_set.specs.Sawtooth.{AreCorners, AreMeasured};
 ghost use Rattle.point_set.specs.Split.{AreRisingPairs, IsSplit, IsWanted, MakesUp, most_items};
-ghost use Rattle.point_set.specs.Takes.{AreBeliefs, AreItems, AreTaken, IsSmall, inserted, others};
+ghost use Rattle.point_set.specs.Takes.{AreBeliefs, AreItems, AreTaken, IsPlace, IsSmall, inserted, others};
 ghost use Rattle.scaled_num.specs.Share.{at};
 ghost use Rattle.game_model.specs.Game.{IsWithin};
 ghost use Rattle.scaled_num.specs.Sums.{sum_of};
@@ -25,13 +25,13 @@ pub struct Split {
 
 impl Model for Split {
     ghost use Rattle.point_set.specs.Split.{most_items};
-    ghost use Rattle.std.specs.Prelude.{List, take, ℕ, ℤ, ◌≤◌};
+    ghost use Rattle.std.specs.Prelude.{List, length, take, ℕ, ℤ, ◌≡◌, ◌≤◌};
 
     ghost Value = { List (ℕ × ℤ) };
 
     ghost view = { λ split. take split.count split.items };
 
-    ghost invariant = { λ split. split.count ≤ most_items };
+    ghost invariant = { λ split. (split.count ≤ most_items) × (length split.items ≡ most_items) };
 }
 
 impl Split {
@@ -69,7 +69,7 @@ impl Split {
         requires room { length (inserted number weight self.old) ≤ most_items }
         ensures { self.new ≡ inserted number weight self.old }
     {
-        let place = self.items[..self.count].partition_point(|item| item.0 < number);
+        let place = place_of(&self.items[..self.count], number);
         if place < self.count && self.items[place].0 == number {
             self.items[place].1 += weight;
             return;
@@ -78,6 +78,14 @@ impl Split {
         self.items[place] = (number, weight);
         self.count += 1;
     }
+}
+
+/// The place of a number among items: how many have a smaller one.
+fn place_of(items: &[(u32, i128)], number: u32) -> usize
+    requires { AreRisingPairs items.now }
+    ensures { IsPlace number items.now result }
+{
+    items.partition_point(|item| item.0 < number)
 }
 
 /// Splits a mass by wanted points, where the current corner of each state is known.
