@@ -58,6 +58,14 @@ each-inserted P k w (x ∷ xs) h new more =
     (λ e. (more x e h.0, h.1))
     (λ l. (new, (h.0, h.1)))
 
+pub each-grown : (P Q : ℕ × ℤ → Type 0) (k : ℕ) (w : ℤ) (xs : List (ℕ × ℤ)) → ((x : ℕ × ℤ) → P x → Q x) → AllByRecursion P xs → Q (k, w) → ((x : ℕ × ℤ) → x.0 ≡ k → P x → Q (k, x.1 +ℤ w)) → AllByRecursion Q (inserted k w xs)
+each-grown P Q k w [] f h new more = (new, tt)
+each-grown P Q k w (x ∷ xs) f h new more =
+    inserted-cases (AllByRecursion Q) k w x xs
+    (λ l. (f x h.0, each-grown P Q k w xs f h.1 new more))
+    (λ e. (more x e h.0, each-from P Q xs f h.1))
+    (λ l. (new, (f x h.0, each-from P Q xs f h.1)))
+
 pub rising-inserted : (k : ℕ) (w : ℤ) (xs : List (ℕ × ℤ)) → AreRisingPairs xs → AreRisingPairs (inserted k w xs)
 rising-inserted k w [] h = tt
 rising-inserted k w (x ∷ xs) h =

@@ -8,3 +8,5 @@ pub mod Items
 pub mod Counted
 pub mod Taking
 pub mod Placing
+pub mod Wanted
+pub mod Rests

@@ -1,7 +1,7 @@
 ghost use Rattle.point_set.specs.Members.{data_of};
 ghost use Rattle.point_set.specs.Sawtooth.{AreCorners, AreMeasured};
 ghost use Rattle.point_set.specs.Split.{AreRisingPairs, IsSplit, IsWanted, MakesUp, most_items};
-ghost use Rattle.point_set.specs.Takes.{AreBeliefs, AreItems, AreTaken, IsPlace, IsSmall, inserted, others};
+ghost use Rattle.point_set.specs.Takes.{AreBeliefs, AreItems, AreTaken, IsPlace, IsSmall, inserted, others, with_rests};
 ghost use Rattle.scaled_num.specs.Share.{at};
 ghost use Rattle.game_model.specs.Game.{IsWithin};
 ghost use Rattle.scaled_num.specs.Sums.{sum_of};
@@ -148,6 +148,13 @@ fn take_wanted(
 
 /// Adds what remains of a mass in each state to the item of its current corner.
 fn give_corners(corners: &[u32], rest: &[i128], out: &mut Split)
+    requires states { length corners.now ≤ 16 }
+    requires places { length rest.now ≡ length corners.now }
+    requires rising { AreRisingPairs out.old }
+    requires few { others (λ s. slice_index_or corners.now s 0) (length corners.now) out.old ≤ 8 }
+    requires items { AllByRecursion (λ item. IsWithin (pos 0) (pos (2 ^ 66)) item.1) out.old }
+    requires rest { AllByRecursion (IsWithin (pos 0) (pos (2 ^ 66))) rest.now }
+    ensures { out.new ≡ with_rests (λ s. slice_index_or corners.now s 0) rest.now out.old (length corners.now) }
 {
     for (s, number) in corners.iter().enumerate() {
         if rest[s] > 0 {
