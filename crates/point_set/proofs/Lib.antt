@@ -10,3 +10,4 @@ pub mod Taking
 pub mod Placing
 pub mod Wanted
 pub mod Rests
+pub mod Splitting

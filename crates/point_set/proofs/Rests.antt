@@ -1,6 +1,8 @@
 -- What remains of a mass goes to the current corners.
 use Rattle.std.proofs.Common.{◌≡◌, ℕ, zero, suc, ◌+◌, ◌*◌, ◌^◌, ◌<◌, ◌≤◌, Bool, true, false, not, cond, ◌==◌, ltb, List, [], ◌∷◌, length, get_or, set, replicate, filter, refl, ap, arith, add-one, sym, subst, ◌∙◌, inl, inr, ◌⊎◌}
-use Rattle.std.specs.Prelude.{ℤ, pos, negsuc, ◌+ℤ◌, ◌*ℤ◌, ◌≤ℤ◌, ◌<ℤ◌, count_by, sum_by}
+use Rattle.std.specs.Prelude.{ℤ, pos, negsuc, ◌+ℤ◌, ◌*ℤ◌, ◌≤ℤ◌, ◌<ℤ◌, count_by, sum_by, FitsSigned}
+use Rattle.std.specs.Int.{w128}
+use Rattle.scaled_num.proofs.Floors.{small_fits}
 use Rattle.std.specs.Int.Signed.{lt_z}
 use Rattle.std.specs.List.{AllByRecursion}
 use Rattle.std.proofs.lemmas.Bool.{le-ltb, lt-ltb}
@@ -254,3 +256,9 @@ rests-weigh corners rest items (suc n) k none l =
 -- where all corners were given their part, nothing is left
 pub rests-end : (rest : List ℤ) (n s : ℕ) → s < n → left_from rest n s ≡ pos 0
 rests-end rest n s l = left-none rest n s l
+
+pub part-fits : (rest : List ℤ) (s : ℕ) → AllByRecursion (IsWithin (pos 0) (pos (2 ^ 66))) rest → s < length rest → FitsSigned w128 (at rest s)
+part-fits rest s h l = let w = by-recursion (IsWithin (pos 0) (pos (2 ^ 66))) rest h s (pos 0) l in small_fits (at rest s) w.0 (wide (at rest s) w.1)
+  where
+    wide : (a : ℤ) → a ≤ℤ pos (2 ^ 66) → a ≤ℤ pos (2 ^ 126)
+    wide a h = omega (arith, ints)

@@ -1,6 +1,6 @@
 -- The wanted points so far: what they took from a mass, and their items.
 use Rattle.std.proofs.Common.{◌≡◌, ℕ, zero, suc, ◌+◌, ◌^◌, ◌<◌, ◌≤◌, Bool, true, false, not, cond, ◌==◌, List, [], ◌∷◌, ◌++◌, length, get_or, map, take, filter, refl, ap, arith, sym, subst, ◌∙◌}
-use Rattle.std.specs.Prelude.{ℤ, pos, ◌+ℤ◌, ◌-ℤ◌, ◌*ℤ◌, ◌≤ℤ◌, FitsSigned}
+use Rattle.std.specs.Prelude.{ℤ, pos, negsuc, ◌+ℤ◌, ◌-ℤ◌, ◌*ℤ◌, ◌≤ℤ◌}
 use Rattle.std.specs.List.{AllByRecursion}
 use Rattle.std.proofs.lemmas.Int.{ints}
 use Rattle.std.proofs.lemmas.List.{map_more, take_more}
@@ -164,3 +164,8 @@ wanted-room points mass wanted shares i rest items times h l so lw =
     let k : ℕ = (get_or wanted i (0, pos 0)).0 in
     few-items h.corners (length mass) (inserted k times items) (rising-inserted k times items so.listed.rising)
     (omega (arith, h.few, so.few h.corners, others-inserted h.corners (length mass) k times items, front-more h.corners (length mass) wanted i lw, front-fewer h.corners (length mass) wanted (i + 1))) l
+
+pub zero-only : (a : ℤ) → pos 0 ≤ℤ a → a ≤ℤ pos 0 → a ≡ pos 0
+zero-only (pos zero) p q = refl
+zero-only (pos (suc n)) p q = absurd (omega (arith, ints))
+zero-only (negsuc n) p q = absurd (omega (arith, ints))
