@@ -5,7 +5,7 @@ use Rattle.std.specs.List.{AllByRecursion}
 use Rattle.std.proofs.lemmas.Int.{ints}
 use Rattle.scaled_num.specs.Share.{IsShared, at}
 use Rattle.scaled_num.specs.Sums.{below, sum_of, total}
-use Rattle.scaled_num.proofs.Floors.{at_le_sum}
+use Rattle.scaled_num.proofs.Floors.{at_le_sum, sum-none_negative}
 use Rattle.scaled_num.proofs.Products.{sums}
 use Rattle.scaled_num.proofs.Sums.{each-at}
 use Rattle.game_model.proofs.Front.{each-by-place}
@@ -106,3 +106,18 @@ done points wanted mass shares rest items corners beliefs whole current shared t
 
     zero-low : pos 0 ≤ℤ pos 0
     zero-low = omega (arith, ints)
+
+pub sum-within : (points : List PointData) (mass : List ℤ) → AreMeasured points mass → IsWithin (pos 0) (pos (2 ^ 66)) (sum_of mass)
+sum-within points mass m = (sum-none_negative mass (by-recursion (λ x. pos 0 ≤ℤ x) mass m.right.each), measured-sum points mass m)
+
+-- the same where the mass was copied first
+pub done-by-copy : (points : List PointData) (wanted : List (ℕ × ℤ)) (mass copy shares rest : List ℤ) (items out : List (ℕ × ℤ)) (corners : ℕ → ℕ) (n : ℕ) (sum : ℤ) → AreMeasured points mass → AreCorners points (length mass) corners →
+    copy ≡ mass → n ≡ length mass → sum ≡ sum_of mass → IsShared (map (λ want. want.1) wanted) sum shares → AreTaken points (map (λ want. want.0) wanted) shares copy rest items → AreItems points copy (at rest) items →
+    AllByRecursion (λ x. pos 0 ≤ℤ x) rest → length rest ≡ length copy → out ≡ with_rests corners rest items n → IsDone points wanted mass out
+done-by-copy points wanted mass copy shares rest items out corners n sum m current same states whole shared taken made none long is =
+    subst (IsDone points wanted mass) (sym (is ∙ ap (with_rests corners rest items) states))
+    (done points wanted mass shares rest items corners (measured-beliefs points mass m) m.right.each current
+    (subst (λ (z : ℤ). IsShared (map (λ (want : ℕ × ℤ). want.1) wanted) z shares) whole shared)
+    (subst (λ (xs : List ℤ). AreTaken points (map (λ (want : ℕ × ℤ). want.0) wanted) shares xs rest items) same taken)
+    (subst (λ (xs : List ℤ). AreItems points xs (at rest) items) same made)
+    none (long ∙ ap length same))

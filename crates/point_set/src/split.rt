@@ -136,6 +136,7 @@ fn take_wanted(
     ensures items { AreItems (data_of points.now) rest.old (at rest.new) out.new }
     ensures mass { AllByRecursion (λ x. pos 0 ≤ℤ x) rest.new }
     ensures places { length rest.new ≡ length rest.old }
+    ensures sum { sum_of rest.new ≤ℤ sum_of rest.old }
     ensures others { (corners : ℕ → ℕ) → others corners (length rest.old) out.new ≤ others corners (length rest.old) wanted.now }
 {
     for (place, want) in wanted.iter().enumerate() {
