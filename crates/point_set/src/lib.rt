@@ -5,6 +5,8 @@ mod points;
 mod sawtooth;
 mod sets;
 mod split;
+#[cfg(test)]
+mod split_tests;
 mod splits;
 mod stands;
 mod takes;
