@@ -42,9 +42,9 @@ inserted-cases P k w x xs less same more =
     elim (ltb x.0 k) as (λ b. ltb x.0 k ≡ b → P (cond b (x ∷ inserted k w xs) (cond (x.0 == k) ((k, x.1 +ℤ w) ∷ xs) ((k, w) ∷ x ∷ xs)))) [
       | true ↦ (λ e. less (ltb-true x.0 k e))
       | false ↦ (λ e. elim (eqb_tells x.0 k) [
-          | inl t ↦ rw (t.0) (same t.1)
-          | inr t ↦ rw (t.0) (more (above (ltb-false x.0 k e) t.1))
-        ])
+        | inl t ↦ rw (t.0) (same t.1)
+        | inr t ↦ rw (t.0) (more (above (ltb-false x.0 k e) t.1))
+      ])
     ] refl
   where
     above : k ≤ x.0 → (x.0 ≡ k → ⊥) → k < x.0

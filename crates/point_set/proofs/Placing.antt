@@ -90,8 +90,8 @@ written-new k w items n place l h ne =
     let moved : List (ℕ × ℤ) = copy_within items place n (place + 1) in
     take-set-lt (n + 1) moved place (k, w) (omega arith)
     ∙ ap (λ (xs : List (ℕ × ℤ)). set xs place (k, w))
-      (ap (λ (j : ℕ). take j moved) (sym whole) ∙ take-paste items (place + 1) (drop place items) m (omega arith) (omega (arith, length-drop place items))
-      ∙ ap (λ (j : ℕ). take j items ++ take m (drop place items)) next)
+    (ap (λ (j : ℕ). take j moved) (sym whole) ∙ take-paste items (place + 1) (drop place items) m (omega arith) (omega (arith, length-drop place items))
+    ∙ ap (λ (j : ℕ). take j items ++ take m (drop place items)) next)
     ∙ set-seam items (take m (drop place items)) place (k, w) (omega arith)
     ∙ ap (λ (xs : List (ℕ × ℤ)). xs ++ (k, w) ∷ take m (drop place items)) (sym (take-of-take place n items upto))
     ∙ ap (λ (xs : List (ℕ × ℤ)). take place (take n items) ++ (k, w) ∷ xs) (sym (drop-take place m items) ∙ ap (λ (j : ℕ). drop place (take j items)) again)
