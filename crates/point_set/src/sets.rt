@@ -126,7 +126,8 @@ impl PointSet {
         ensures makes_up { MakesUp self.now out.new mass.now }
         ensures inside { AllByRecursion (λ item. item.0 < length self.now) out.new }
         ensures most { AllByRecursion (λ item. item.1 ≤ℤ sum_of mass.now) out.new }
-    {}
+    {
+    }
 
     /// Whether a point stands: None where the split rule and the value rule hold everywhere. Else the first place
     /// at which one fails: of the split rule by own action, observation and next state, and only then of the value
