@@ -9,3 +9,10 @@ pub mod CornerNumbers
 pub mod PointBounds
 pub mod LeastBounds
 pub mod ThreePoints
+pub mod Items
+pub mod Counted
+pub mod Taking
+pub mod Placing
+pub mod Wanted
+pub mod Rests
+pub mod Splitting

@@ -6,3 +6,4 @@ pub mod Kept
 pub mod Sawtooth
 pub mod Bounds
 pub mod Split
+pub mod Takes

@@ -6,8 +6,11 @@ mod points;
 mod sawtooth;
 mod sets;
 mod split;
+#[cfg(test)]
+mod split_tests;
 mod splits;
 mod stands;
+mod takes;
 #[cfg(test)]
 mod tests;
 mod times;

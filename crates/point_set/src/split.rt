@@ -1,11 +1,15 @@
 ghost use Rattle.point_set.specs.Members.{data_of};
 ghost use Rattle.point_set.specs.Sawtooth.{AreCorners, AreMeasured};
-ghost use Rattle.point_set.specs.Split.{IsSplit, IsWanted, MakesUp, most_items};
+ghost use Rattle.point_set.specs.Split.{AreRisingPairs, IsSplit, IsWanted, MakesUp, most_items};
+ghost use Rattle.point_set.specs.Takes.{AreBeliefs, AreItems, AreTaken, IsPlace, IsSmall, inserted, others, with_rests};
+ghost use Rattle.scaled_num.specs.Share.{at};
+ghost use Rattle.game_model.specs.Game.{IsWithin};
 ghost use Rattle.scaled_num.specs.Sums.{sum_of};
 ghost use Rattle.std.specs.List.{AllByRecursion};
-ghost use Rattle.std.specs.Prelude.{[], length, pos, slice_index_or, ◌<◌, ◌≡◌, ◌≤ℤ◌, ◌≤◌};
+ghost use Rattle.std.specs.Prelude.{[], length, map, pos, slice_index_or, ℕ, ◌<◌, ◌^◌, ◌≡◌, ◌≤ℤ◌, ◌≤◌};
 
 use crate::points::Point;
+use crate::takes::{share_by, sum, take};
 use game_model::MOST_STATES;
 use std::marker::Model;
 
@@ -21,13 +25,13 @@ pub struct Split {
 
 impl Model for Split {
     ghost use Rattle.point_set.specs.Split.{most_items};
-    ghost use Rattle.std.specs.Prelude.{List, take, ℕ, ℤ, ◌≤◌};
+    ghost use Rattle.std.specs.Prelude.{List, length, take, ℕ, ℤ, ◌≡◌, ◌≤◌};
 
     ghost Value = { List (ℕ × ℤ) };
 
     ghost view = { λ split. take split.count split.items };
 
-    ghost invariant = { λ split. split.count ≤ most_items };
+    ghost invariant = { λ split. (split.count ≤ most_items) × (length split.items ≡ most_items) };
 }
 
 impl Split {
@@ -56,6 +60,32 @@ impl Split {
     {
         self.items[i as usize]
     }
+
+    /// Adds weight under a number: to the item of that number, or as a new item in order.
+    fn add(&mut self, number: u32, weight: i128)
+        requires rising { AreRisingPairs self.old }
+        requires small { AllByRecursion (λ item. IsSmall item.1) self.old }
+        requires weight { IsSmall weight }
+        requires room { length (inserted number weight self.old) ≤ most_items }
+        ensures { self.new ≡ inserted number weight self.old }
+    {
+        let place = place_of(&self.items[..self.count], number);
+        if place < self.count && self.items[place].0 == number {
+            self.items[place].1 += weight;
+            return;
+        }
+        self.items.copy_within(place..self.count, place + 1);
+        self.items[place] = (number, weight);
+        self.count += 1;
+    }
+}
+
+/// The place of a number among items: how many have a smaller one.
+fn place_of(items: &[(u32, i128)], number: u32) -> usize
+    requires { AreRisingPairs items.now }
+    ensures { IsPlace number items.now result }
+{
+    items.partition_point(|item| item.0 < number)
 }
 
 /// Splits a mass by wanted points, where the current corner of each state is known.
@@ -76,4 +106,60 @@ pub fn split_mass(
     ensures most { AllByRecursion (λ item. item.1 ≤ℤ sum_of mass.now) out.new }
 {
     out.count = 0;
+    let mut rest = [0; MOST_STATES];
+    let rest = &mut rest[..mass.len()];
+    rest.copy_from_slice(mass);
+    let mut shares = [0; MOST_ITEMS];
+    let shares = &mut shares[..wanted.len()];
+    share_by(wanted, sum(mass), shares);
+    take_wanted(points, wanted, shares, rest, out);
+    give_corners(corners, rest, out);
+}
+
+/// Takes the beliefs of the wanted points off a mass in order, and adds an item for each that takes some.
+fn take_wanted(
+    points: &[Point],
+    wanted: &[(u32, i128)],
+    shares: &[i128],
+    rest: &mut [i128],
+    out: &mut Split,
+)
+    requires beliefs { AreBeliefs (length rest.old) (data_of points.now) }
+    requires wanted { IsWanted (data_of points.now) (length rest.old) wanted.now }
+    requires few { length rest.old ≤ 16 }
+    requires shares { AllByRecursion (IsWithin (pos 0) (pos (2 ^ 66))) shares.now }
+    requires places { length shares.now ≡ length wanted.now }
+    requires mass { AllByRecursion (λ x. pos 0 ≤ℤ x) rest.old }
+    requires sum { sum_of rest.old ≤ℤ pos (2 ^ 66) }
+    requires empty { out.old ≡ [] }
+    ensures taken { AreTaken (data_of points.now) (map (λ want. want.0) wanted.now) shares.now rest.old rest.new out.new }
+    ensures items { AreItems (data_of points.now) rest.old (at rest.new) out.new }
+    ensures mass { AllByRecursion (λ x. pos 0 ≤ℤ x) rest.new }
+    ensures places { length rest.new ≡ length rest.old }
+    ensures sum { sum_of rest.new ≤ℤ sum_of rest.old }
+    ensures others { (corners : ℕ → ℕ) → others corners (length rest.old) out.new ≤ others corners (length rest.old) wanted.now }
+{
+    for (place, want) in wanted.iter().enumerate() {
+        let times = take(&points[want.0 as usize].belief, shares[place], rest);
+        if times > 0 {
+            out.add(want.0, times);
+        }
+    }
+}
+
+/// Adds what remains of a mass in each state to the item of its current corner.
+fn give_corners(corners: &[u32], rest: &[i128], out: &mut Split)
+    requires states { length corners.now ≤ 16 }
+    requires places { length rest.now ≡ length corners.now }
+    requires rising { AreRisingPairs out.old }
+    requires few { others (λ s. slice_index_or corners.now s 0) (length corners.now) out.old ≤ 8 }
+    requires items { AllByRecursion (λ item. IsWithin (pos 0) (pos (2 ^ 66)) item.1) out.old }
+    requires rest { AllByRecursion (IsWithin (pos 0) (pos (2 ^ 66))) rest.now }
+    ensures { out.new ≡ with_rests (λ s. slice_index_or corners.now s 0) rest.now out.old (length corners.now) }
+{
+    for (s, number) in corners.iter().enumerate() {
+        if rest[s] > 0 {
+            out.add(*number, rest[s]);
+        }
+    }
 }

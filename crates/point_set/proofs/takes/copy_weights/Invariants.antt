@@ -1,0 +1,9 @@
+use Rattle.std.proofs.Common.{◌≡◌, ℕ, length, map, take}
+use Rattle.std.specs.Prelude.{ℤ}
+use Rattle.point_set.proofs.takes.copy_weights.Given as goal
+
+abbrev pub invariant-loop-place : goal.invariant-loop-place
+invariant-loop-place l = record {
+  same_length : length l.weights ≡ length l.wanted;
+  written : take l.place l.weights ≡ map (λ (want : ℕ × ℤ). want.1) (take l.place l.wanted);
+}
