@@ -1,0 +1,4 @@
+pub mod Greatest
+pub mod FallingCorners
+pub mod Placed
+pub mod CornerSplits
