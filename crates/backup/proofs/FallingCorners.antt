@@ -53,7 +53,7 @@ mul-neg : (k x : ℕ) → pos k *ℤ neg_ℤ (pos x) ≡ neg_ℤ (pos (k * x))
 mul-neg k zero = omega (arith, ints)
 mul-neg k (suc x) = omega (arith, ints)
 
-neg-mul : (x k : ℕ) → neg_ℤ (pos x) *ℤ pos k ≡ neg_ℤ (pos (x * k))
+pub neg-mul : (x k : ℕ) → neg_ℤ (pos x) *ℤ pos k ≡ neg_ℤ (pos (x * k))
 neg-mul x k = mulℤ_comm (neg_ℤ (pos x)) (pos k) ∙ mul-neg k x ∙ ap (λ z. neg_ℤ (pos z)) (omega arith)
 
 pub ceil-of : (w : ℤ) (k : ℕ) → 1 ≤ k → (x : ℤ) × IsCeil w k x
