@@ -6,3 +6,4 @@ pub mod CornerSplits
 pub mod CornerValues
 pub mod Roots
 pub mod AlwaysNodes
+pub mod CornerFits
