@@ -7,3 +7,5 @@ pub mod CornerValues
 pub mod Roots
 pub mod AlwaysNodes
 pub mod CornerFits
+pub mod Sure
+pub mod SeedPoints
