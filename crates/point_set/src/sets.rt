@@ -1,12 +1,13 @@
-ghost use Rattle.point_set.specs.Faults.{FailsFirst};
+ghost use Rattle.point_set.specs.Faults.{FailsFirst, SplitsHold};
 ghost use Rattle.point_set.specs.Members.{most_points, point_data};
-ghost use Rattle.point_set.specs.Points.{PointFits, PointStands, no_point, points_of};
+ghost use Rattle.point_set.specs.Points.{PointFits, PointStands, no_point, point_of, point_worth, points_of};
 ghost use Rattle.game_model.specs.Game.{numbers};
 ghost use Rattle.std.specs.List.{AllByRecursion};
 ghost use Rattle.std.specs.Prelude.{IfOk, IfSome, IsErrOf, IsNone, OnErr, OnOk, [], length, slice_index_or, ◌++◌, ◌<◌, ◌↔◌, ◌∷◌, ◌≡◌, ◌≤◌};
 
 use crate::points::Point;
 use crate::stands::{PointFault, first_fault};
+use crate::values::worth_after;
 use game_model::Game;
 use std::alloc::Global;
 use std::marker::Model;
@@ -100,5 +101,18 @@ impl PointSet {
         ensures first { IfSome result (FailsFirst (numbers game.now) (points_of self.now) (points_of self.now j)) }
     {
         first_fault(game, &self.points, &self.points[j as usize])
+    }
+    /// What one stage costs at most after own action `a` for a point whose splits hold among the points of the set,
+    /// times the mix total, the row total and the discount's denominator: the left side of the value rule. The point
+    /// need not be in the set. It takes no memory.
+    pub fn stage_worth(&self, game: &Game, point: &Point, a: u32) -> i128
+        requires own { a < game.now.shape.own_actions }
+        requires fits { AllByRecursion (PointFits game.now most_points) self.now }
+        requires point { PointFits game.now most_points (point_data point.now) }
+        requires named { AllByRecursion (λ share. share.member < length self.now) (point_data point.now).splits }
+        requires splits { SplitsHold (numbers game.now) (points_of self.now) (point_of (point_data point.now)) }
+        ensures { result ≡ point_worth (numbers game.now) (points_of self.now) (point_of (point_data point.now)) a }
+    {
+        worth_after(game, &self.points, point, a)
     }
 }
