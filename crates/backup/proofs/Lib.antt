@@ -1,5 +1,6 @@
 pub mod Greatest
 pub mod FallingCorners
+pub mod Replies
 pub mod Placed
 pub mod Places
 pub mod CornerSplits

@@ -18,6 +18,7 @@ use Rattle.belief.specs.Mixes.{MixesData, pure_mixes}
 use Rattle.belief.proofs.Parts.{corner-parts}
 use Rattle.point_set.specs.Points.{Point, PointData, PointFits, PointStands, no_point, point_of, point_worth, points_of}
 use Rattle.point_set.proofs.Masses.{belief-total, mix-total}
+use Rattle.backup.specs.Rounds.{AreSettled}
 use Rattle.backup.specs.Seeds.{AreCornerValues, AreSeedPoints, IsEvaluation, IsRootPoint, corner_points, corner_split}
 use Rattle.backup.proofs.FallingCorners.{KeepsCorners, corner-holds, values-within}
 use Rattle.backup.proofs.Placed.{placed-at, placed-long, placed-sum, pure-right, pure-weight}
@@ -26,14 +27,6 @@ use Rattle.backup.proofs.CornerSplits.{BeginWithCorners, corner-splits}
 use Rattle.backup.proofs.CornerValues.{IsSureOf, corner-value, corner-worth}
 use Rattle.backup.proofs.CornerFits.{split-fits}
 use Rattle.backup.proofs.Roots.{AreFull, evaluation-within}
-
--- what the rounds leave
-pub record AreSettled (g : GameData) (values : List ℤ) (replies : List ℕ) : Type 0 where
-  pub accepted : IsGame g
-  pub long : length values ≡ g.shape.states
-  pub count : length replies ≡ g.shape.states
-  pub informed : AllByRecursion (λ c. c < g.shape.informed_actions) replies
-  pub corners : AreCornerValues (numbers g) (span g) (at values) (λ s. get_or replies s 0)
 
 pub keeps-corners : (g : GameData) → IsGame g → KeepsCorners (numbers g) (span g)
 keeps-corners g h = record { keeps = keeps-span g h; own = h.shape.own_actions.0 }

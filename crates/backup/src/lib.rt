@@ -1,6 +1,7 @@
 //! The first nodes and points of a search, and what backups add to them.
 #![tactic(auto)]
 
+mod corners;
 mod seeds;
 
 pub use seeds::seed;
