@@ -1,7 +1,9 @@
 -- The reply among the first informed actions.
-use Rattle.std.proofs.Common.{◌≡◌, ℕ, zero, suc, ◌+◌, ◌*◌, ◌<◌, ◌≤◌, arith, sym, subst, inl, inr, ap, ◌∙◌}
-use Rattle.std.specs.Prelude.{ℤ, pos, neg_ℤ, ◌+ℤ◌, ◌-ℤ◌, ◌*ℤ◌, ◌≤ℤ◌, ◌<ℤ◌, unsigned_abs}
+use Rattle.std.proofs.Common.{◌≡◌, Bool, true, false, ℕ, zero, suc, ◌+◌, ◌*◌, ◌<◌, ◌≤◌, arith, sym, subst, inl, inr, ap, ◌∙◌}
+use Rattle.std.specs.Prelude.{ℤ, pos, neg_ℤ, ◌+ℤ◌, ◌-ℤ◌, ◌*ℤ◌, ◌≤ℤ◌, ◌<ℤ◌, not, unsigned_abs}
 use Rattle.std.proofs.lemmas.Int.{ints}
+use Rattle.std.specs.Int.Signed.{lt_z, lt_z_no, lt_z_yes}
+use Rattle.std.proofs.Math.Dec.{T}
 use Rattle.scaled_num.proofs.Products.{add-mulℤ, sums}
 use Rattle.game_model.specs.Numbers.{Numbers}
 use Rattle.backup.specs.Rounds.{IsReplyAmong}
@@ -52,6 +54,25 @@ reply-take g old s n c x y h k l = record {
     | inr e ↦ ceils-same g old s n y z k (subst (λ (c : ℕ). IsGreatestCeil g old s c z) e i)
   ];
   first = λ d z b i. through-less y x z l (h.least d z b i);
+}
+
+-- the test as the code makes it
+pub record NextReply (g : Numbers) (old : ℕ → ℤ) (s n c most : ℕ) (x : ℤ) : Type 0 where
+  pub reply : IsReplyAmong g old s n c x
+  pub bounded : unsigned_abs x ≤ most
+
+pub taken : (g : Numbers) (old : ℕ → ℤ) (s n c most : ℕ) (x y z : ℤ) (d : ℕ) → IsReplyAmong g old s n c x → IsGreatestCeil g old s n y → unsigned_abs y ≤ most →
+    lt_z y x ≡ true → z ≡ y → d ≡ n → NextReply g old s (n + 1) d most z
+taken g old s n c most x y z d h k l test is number = record {
+  reply = subst (λ (i : ℕ). IsReplyAmong g old s (n + 1) i z) (sym number) (subst (IsReplyAmong g old s (n + 1) n) (sym is) (reply-take g old s n c x y h k (lt_z_yes (subst T (sym test) tt))));
+  bounded = subst (λ (v : ℤ). unsigned_abs v ≤ most) (sym is) l;
+}
+
+pub kept : (g : Numbers) (old : ℕ → ℤ) (s n c most : ℕ) (x y z : ℤ) (d : ℕ) → IsReplyAmong g old s n c x → unsigned_abs x ≤ most → IsGreatestCeil g old s n y →
+    lt_z y x ≡ false → z ≡ x → d ≡ c → NextReply g old s (n + 1) d most z
+kept g old s n c most x y z d h l k test is number = record {
+  reply = subst (λ (i : ℕ). IsReplyAmong g old s (n + 1) i z) (sym number) (subst (IsReplyAmong g old s (n + 1) c) (sym is) (reply-keep g old s n c x y h k (lt_z_no (subst (λ (b : Bool). T (not b)) (sym test) tt))));
+  bounded = subst (λ (v : ℤ). unsigned_abs v ≤ most) (sym is) l;
 }
 
 pub reply-all : (g : Numbers) (old : ℕ → ℤ) (s n c : ℕ) (x : ℤ) → n ≡ g.informed_actions → IsReplyAmong g old s n c x → IsReply g old s c x
