@@ -10,3 +10,4 @@ pub mod AlwaysNodes
 pub mod CornerFits
 pub mod Sure
 pub mod SeedPoints
+pub mod AlwaysSets

@@ -2,6 +2,7 @@
 #![tactic(auto)]
 
 mod corners;
+mod nodes;
 mod seeds;
 
 pub use seeds::seed;
