@@ -11,3 +11,4 @@ pub mod CornerFits
 pub mod Sure
 pub mod SeedPoints
 pub mod AlwaysSets
+pub mod ShareLists

@@ -4,5 +4,6 @@
 mod corners;
 mod nodes;
 mod seeds;
+mod shares;
 
 pub use seeds::seed;
