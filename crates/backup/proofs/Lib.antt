@@ -12,3 +12,4 @@ pub mod Sure
 pub mod SeedPoints
 pub mod AlwaysSets
 pub mod ShareLists
+pub mod Evaluations

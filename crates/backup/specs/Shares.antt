@@ -4,11 +4,14 @@ use Rattle.std.specs.List.{AllByRecursion}
 use Rattle.scaled_num.specs.Sums.{below}
 use Rattle.game_model.specs.Branches.{Branch}
 use Rattle.game_model.specs.Game.{GameData, numbers}
-use Rattle.belief.specs.Mixes.{MixesData}
+use Rattle.belief.specs.Mixes.{MixesData, pure_mixes}
 use Rattle.point_set.specs.Faults.{SplitsHold}
 use Rattle.point_set.specs.Members.{most_points}
-use Rattle.point_set.specs.Points.{PointData, PointFits, point_of, points_of}
-use Rattle.backup.specs.Seeds.{mass_at}
+use Rattle.point_set.specs.Points.{PointData, PointFits, PointStands, point_of, points_of}
+use Rattle.backup.specs.Rounds.{AreSettled}
+use Rattle.belief.specs.Beliefs.{corner_of}
+use Rattle.scaled_num.specs.Share.{at}
+use Rattle.backup.specs.Seeds.{AreSeedPoints, corner_points, corner_split, mass_at}
 
 -- one share for each of the first n corners, with these weights
 abbrev pub row_shares : (ℕ → ℤ) → ℕ → ℕ → ℕ → List Branch
@@ -38,3 +41,19 @@ pub record IsSplitAmong (g : GameData) (points : List PointData) (point : PointD
   pub fits : PointFits g most_points point
   pub named : AllByRecursion (λ (share : Branch). share.member < length points) point.splits
   pub splits : SplitsHold (numbers g) (points_of points) (point_of point)
+
+-- the corner points of settled values with these replies
+pub record AreCorners (g : GameData) (replies : List ℕ) (points : List PointData) : Type 0 where
+  pub values : List ℤ
+  pub settled : AreSettled g values replies
+  pub same : points ≡ corner_points g values (pure_mixes g replies)
+
+-- the first n corner points
+abbrev pub first_corners : GameData → List ℤ → MixesData → ℕ → List PointData
+first_corners g values mixes n = map (λ s. corner_split g (corner_of g.shape.states s) (at values s) mixes) (below n)
+
+-- the seed points, which fit the game and stand
+pub record AreSeeds (g : GameData) (points : List PointData) : Type 0 where
+  pub seeds : AreSeedPoints g points
+  pub fit : AllByRecursion (PointFits g (length points)) points
+  pub stand : (j : ℕ) → j < length points → PointStands (numbers g) (points_of points) (points_of points j)

@@ -3,6 +3,7 @@
 
 mod corners;
 mod nodes;
+mod points;
 mod seeds;
 mod shares;
 

@@ -1,0 +1,4 @@
+use Rattle.backup.proofs.points.add_root.Goals as goal
+
+pub returns : goal.returns
+returns c = ?
