@@ -1,6 +1,6 @@
 -- The seed points fit the game and stand.
 use Rattle.std.proofs.Common.{◌≡◌, ℕ, zero, suc, ◌+◌, ◌*◌, ◌^◌, ◌<◌, ◌≤◌, cond, ◌==◌, List, [], ◌∷◌, ◌++◌, length, get_or, map, refl, ap, arith, sym, subst, ◌∙◌, inl, inr, ◌⊎◌}
-use Rattle.std.specs.Prelude.{ℤ, pos, neg_ℤ, ◌*ℤ◌, ◌≤ℤ◌, unsigned_abs, sum_by}
+use Rattle.std.specs.Prelude.{ℤ, pos, neg_ℤ, ◌*ℤ◌, ◌≤ℤ◌, ◌<ℤ◌, unsigned_abs, sum_by}
 use Rattle.std.specs.List.{AllByRecursion}
 use Rattle.std.proofs.lemmas.Int.{ints}
 use Rattle.std.proofs.lemmas.List.{get_or_append_left, length-append}
@@ -9,17 +9,22 @@ use Rattle.std.proofs.lemmas.List.FromFn.{get_or-map-range_with_len, length-map-
 use Rattle.scaled_num.specs.Share.{at}
 use Rattle.scaled_num.specs.Sums.{below, sum_of}
 use Rattle.scaled_num.proofs.Sums.{each-at}
-use Rattle.game_model.specs.Branches.{mix_total}
+use Rattle.game_model.proofs.Pay.{each-from}
+use Rattle.game_model.specs.Branches.{Branch, IsBranch, mix_total}
 use Rattle.game_model.specs.Game.{AreCoprime, GameData, IsBelief, IsGame, IsWithin, numbers, span}
 use Rattle.game_model.specs.Numbers.{Numbers}
 use Rattle.game_model.proofs.Games.{keeps-span}
 use Rattle.belief.specs.Beliefs.{corner_of, mix_weight, weight_at}
 use Rattle.belief.specs.Mixes.{MixesData, pure_mixes}
 use Rattle.belief.proofs.Parts.{corner-parts}
-use Rattle.point_set.specs.Points.{Point, PointData, PointFits, PointStands, no_point, point_of, point_worth, points_of}
+use Rattle.point_set.specs.Members.{most_points}
+use Rattle.point_set.proofs.Fitting.{fits-more}
+use Rattle.point_set.specs.Points.{Point, PointData, PointFits, PointStands, most_share, no_point, point_of, point_worth, points_of}
 use Rattle.point_set.proofs.Masses.{belief-total, mix-total}
 use Rattle.backup.specs.Rounds.{AreSettled}
 use Rattle.backup.specs.Seeds.{AreCornerValues, AreSeedPoints, IsEvaluation, IsRootPoint, corner_points, corner_split}
+use Rattle.backup.specs.Shares.{AreCorners, AreSeeds, IsSplitAmong}
+use Rattle.backup.proofs.Sure.{total-more, total-one}
 use Rattle.backup.proofs.FallingCorners.{KeepsCorners, corner-holds, values-within}
 use Rattle.backup.proofs.Placed.{placed-at, placed-long, placed-sum, pure-right, pure-weight}
 use Rattle.backup.proofs.Places.{each-places}
@@ -183,3 +188,99 @@ with-root-stand g values replies h value is =
                 (root-stands g values replies h (points_of all) (more-begin g values replies (root ∷ [])) value is))
           ];
     }
+
+-- ---- with the root or without
+with-root-at : (g : GameData) (values : List ℤ) (replies : List ℕ) → AreSettled g values replies → (root : PointData) → IsRootPoint g (corners_of g values replies) (pure_mixes g replies) root →
+    pos 1 <ℤ sum_of g.first → AreSeeds g (corners_of g values replies ++ root ∷ [])
+with-root-at g values replies h root is more =
+    let xs = corners_of g values replies in
+    let worth = subst (λ (p : PointData). IsEvaluation (numbers g) (points_of xs) (point_of p) is.value) is.same is.worth in
+    let all = subst (λ (p : PointData). AllStand g (xs ++ p ∷ [])) (sym is.same) (with-root-stand g values replies h is.value worth) in
+    record {
+      seeds = record {
+        values = values;
+        replies = replies;
+        long = h.long;
+        count = h.count;
+        corners = h.corners;
+        sure = λ sure. absurd (total-more g.first more sure);
+        unsure = λ no. (root, is, refl);
+      };
+      fit = all.fit;
+      stand = all.stand;
+    }
+
+pub with-root : (g : GameData) (replies : List ℕ) (old new : List PointData) (root : PointData) → AreCorners g replies old → IsRootPoint g old (pure_mixes g replies) root → new ≡ old ++ root ∷ [] →
+    pos 1 <ℤ sum_of g.first → AreSeeds g new
+with-root g replies old new root corners is grown more =
+    subst (AreSeeds g) (sym (grown ∙ ap (λ (xs : List PointData). xs ++ root ∷ []) corners.same))
+    (with-root-at g corners.values replies corners.settled root (subst (λ (xs : List PointData). IsRootPoint g xs (pure_mixes g replies) root) corners.same is) more)
+
+no-root-at : (g : GameData) (values : List ℤ) (replies : List ℕ) → AreSettled g values replies → sum_of g.first ≤ℤ pos 1 → AreSeeds g (corners_of g values replies)
+no-root-at g values replies h few =
+    let all = corners-stand g values replies h in
+    let first = h.accepted.first in
+    record {
+      seeds = record {
+        values = values;
+        replies = replies;
+        long = h.long;
+        count = h.count;
+        corners = h.corners;
+        sure = λ sure. refl;
+        unsure = λ no. absurd (no (total-one g.first (each-from (IsWithin (pos 0) (pos (2 ^ 20))) (λ x. pos 0 ≤ℤ x) g.first (λ x i. i.0) first.each) (one (sum_of g.first) first.sums.0 few)));
+      };
+      fit = all.fit;
+      stand = all.stand;
+    }
+  where
+    one : (x : ℤ) → pos 1 ≤ℤ x → x ≤ℤ pos 1 → x ≡ pos 1
+    one x h k = omega (arith, ints)
+
+pub no-root : (g : GameData) (replies : List ℕ) (points : List PointData) → AreCorners g replies points → sum_of g.first ≤ℤ pos 1 → AreSeeds g points
+no-root g replies points corners few = subst (AreSeeds g) (sym corners.same) (no-root-at g corners.values replies corners.settled few)
+
+-- ---- the root point on its way
+-- before its value is known, it is split among the corner points
+none-within : (v b : ℕ) (s : ℤ) → s ≡ pos b → IsWithin (neg_ℤ (pos v *ℤ s)) (pos v *ℤ s) (pos 0)
+none-within v b s e = subst (λ (z : ℤ). IsWithin (neg_ℤ (pos v *ℤ z)) (pos v *ℤ z) (pos 0)) (sym e) (below (v * b), omega (arith, ints))
+  where
+    below : (n : ℕ) → neg_ℤ (pos n) ≤ℤ pos 0
+    below n = omega (arith, ints)
+
+among-at : (g : GameData) (values : List ℤ) (replies : List ℕ) → AreSettled g values replies → IsSplitAmong g (corners_of g values replies) (root_point g (pos 0) replies)
+among-at g values replies h =
+    let xs = corners_of g values replies in
+    let states = h.accepted.shape.states.1 in
+    let count = corners-count g values replies in
+    let few : length xs ≤ most_points = omega (arith, count) in
+    let fits = root-fits g values replies h (length xs) (pos 0) (omega (arith, count)) (none-within (span g) _ (sum_of g.first) (belief-total g.shape.states g.first h.accepted.first)) in
+    record {
+      each = each-from (PointFits g (length xs)) (PointFits g most_points) xs (λ p k. fits-more g (length xs) most_points p few k) (corners-stand g values replies h).fit;
+      fits = fits-more g (length xs) most_points (root_point g (pos 0) replies) few fits;
+      named = each-from (IsBranch (numbers g) (length xs) most_share) (λ (share : Branch). share.member < length xs) (root_point g (pos 0) replies).splits (λ b i. i.member) fits.splits.each;
+      splits = λ a o t la lo lt. corner-splits g (at values) (points_of xs) (corners-begin g values replies) g.first (pos 0) (pure_mixes g replies) a o t la lo lt;
+    }
+
+pub root-among : (g : GameData) (replies : List ℕ) (points : List PointData) (point : PointData) → AreCorners g replies points → point ≡ root_point g (pos 0) replies → IsSplitAmong g points point
+root-among g replies points point corners is =
+    subst (λ (xs : List PointData). IsSplitAmong g xs point) (sym corners.same)
+    (subst (IsSplitAmong g (corners_of g corners.values replies)) (sym is) (among-at g corners.values replies corners.settled))
+
+-- with its value it is the root point
+abbrev valued : PointData → ℤ → PointData
+valued point x = record { belief = point.belief; value = x; mixes = point.mixes; splits = point.splits }
+
+pub root-is : (g : GameData) (replies : List ℕ) (points : List PointData) (point : PointData) (x : ℤ) → point ≡ root_point g (pos 0) replies →
+    IsEvaluation (numbers g) (points_of points) (point_of point) x → IsRootPoint g points (pure_mixes g replies) (valued point x)
+root-is g replies points point x is worth = record {
+  value = x;
+  same = ap (λ (p : PointData). valued p x) is;
+  worth = record { each = worth.each; some = worth.some };
+}
+
+pub few-corners : (g : GameData) (replies : List ℕ) (points : List PointData) → AreCorners g replies points → length points < most_points
+few-corners g replies points corners =
+    let states = corners.settled.accepted.shape.states.1 in
+    let count = corners-count g corners.values replies in
+    omega (arith, ap length corners.same, count)

@@ -1,8 +1,10 @@
 -- A belief of total 1 is sure of a state, and one of a greater total is sure of none.
-use Rattle.std.proofs.Common.{◌≡◌, ℕ, zero, suc, ◌+◌, ◌^◌, ◌<◌, ◌≤◌, List, [], ◌∷◌, length, replicate, refl, ap, arith, sym, subst, ◌∙◌, inl, inr, ◌⊎◌}
-use Rattle.std.specs.Prelude.{ℤ, pos, negsuc, ◌+ℤ◌, ◌≤ℤ◌, ◌<ℤ◌}
+use Rattle.std.proofs.Common.{◌≡◌, Bool, true, false, ℕ, zero, suc, ◌+◌, ◌^◌, ◌<◌, ◌≤◌, List, [], ◌∷◌, length, replicate, refl, ap, arith, sym, subst, ◌∙◌, inl, inr, ◌⊎◌}
+use Rattle.std.specs.Prelude.{ℤ, pos, negsuc, ◌+ℤ◌, ◌≤ℤ◌, ◌<ℤ◌, not}
 use Rattle.std.specs.List.{AllByRecursion}
 use Rattle.std.proofs.lemmas.Int.{ints}
+use Rattle.std.specs.Int.Signed.{lt_z, lt_z_no, lt_z_yes}
+use Rattle.std.proofs.Math.Dec.{T}
 use Rattle.scaled_num.specs.Sums.{sum_of}
 use Rattle.belief.specs.Beliefs.{corner_of}
 use Rattle.backup.specs.Seeds.{IsSure}
@@ -46,3 +48,10 @@ total-more xs h (s, l, e) = apart (sum_of xs) h (ap sum_of e ∙ placed-sum (len
   where
     apart : (x : ℤ) → pos 1 <ℤ x → x ≡ pos 1 → ⊥
     apart x h e = omega (arith, ints)
+
+-- the test of the code
+pub above-one : (x y : ℤ) → x ≡ y → lt_z (pos 1) x ≡ true → pos 1 <ℤ y
+above-one x y e test = subst (λ (z : ℤ). pos 1 <ℤ z) e (lt_z_yes (subst T (sym test) tt))
+
+pub upto-one : (x y : ℤ) → x ≡ y → lt_z (pos 1) x ≡ false → y ≤ℤ pos 1
+upto-one x y e test = subst (λ (z : ℤ). z ≤ℤ pos 1) e (lt_z_no (subst (λ (b : Bool). T (not b)) (sym test) tt))

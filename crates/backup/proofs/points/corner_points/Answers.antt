@@ -1,4 +1,4 @@
-use Rattle.std.proofs.Common.{rules, arith, ◌≡◌, ◌∙◌, ◌++◌, ◌∷◌, ◌<◌, [], ℕ, List, ap, get_or, length, sym}
+use Rattle.std.proofs.Common.{rules, arith, ◌≡◌, ◌∙◌, ◌++◌, ◌∷◌, ◌<◌, [], ℕ, List, ap, get_or, length, of_z, sym, to_z}
 use Rattle.std.specs.Prelude.{ℤ, pos, FitsSigned}
 use Rattle.std.specs.Int.{w128}
 use Rattle.std.proofs.lemmas.Int.{to_z-of_z}
@@ -25,7 +25,18 @@ add-requires c =
 pub loop-s-preserved : goal.loop-s-preserved
 loop-s-preserved c =
     let g : GameData = c.args.game.now in
+    let s : ℕ = c.loop-s.s in
     let mixes : MixesData = pure_mixes g c.args.replies.now in
     let f : ℕ → PointData = λ s. corner_split g (corner_of g.shape.states s) (at c.args.values.now s) mixes in
-    let h = c.in_ok-point.ensures in
-    ?
+    let v : ℤ = get_or c.args.values.now s (pos 0) in
+    let fits : FitsSigned w128 v = search rules in
+    let same : to_z w128 (of_z w128 v) ≡ v = simp to_z-of_z in
+    let point : PointData = point_data c.in_ok-point.point in
+    let is : point ≡ f s =
+    c.in_ok-point.ensures
+    ∙ ap (λ (parts : List ℤ). corner_split g parts (to_z w128 (of_z w128 v)) mixes) (c.corner-corner.ensures ∙ ap (λ (n : ℕ). corner_of n s) c.states.ensures)
+    ∙ ap (λ (x : ℤ). corner_split g (corner_of g.shape.states s) x mixes) same in
+    c.in_ok-add.ensures
+    ∙ ap (λ (xs : List PointData). xs ++ point ∷ []) c.loop-s.invariant
+    ∙ ap (λ (p : PointData). first_corners g c.args.values.now mixes s ++ p ∷ []) is
+    ∙ sym (map-below-more f s)
