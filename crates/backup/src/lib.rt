@@ -6,5 +6,7 @@ mod nodes;
 mod points;
 mod seeds;
 mod shares;
+#[cfg(test)]
+mod tests;
 
 pub use seeds::seed;
