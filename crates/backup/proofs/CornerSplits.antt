@@ -27,9 +27,9 @@ filter-total F p q (b ∷ bs) none =
     let later : total F rest ≡ total G bs = filter-total F p q bs none in
     elim (q b) as (λ x. q b ≡ x → total F (filter p (map share_of (cond x (b ∷ filter q bs) (filter q bs)))) ≡ G b +ℤ total G bs) [
       | true ↦ (λ e. elim (p (share_of b)) as (λ y. total F (cond y (share_of b ∷ rest) rest) ≡ cond y (F (share_of b)) (pos 0) +ℤ total G bs) [
-          | true ↦ ap (λ (z : ℤ). F (share_of b) +ℤ z) later
-          | false ↦ zero-plus (pos 0) _ _ refl later
-        ])
+        | true ↦ ap (λ (z : ℤ). F (share_of b) +ℤ z) later
+        | false ↦ zero-plus (pos 0) _ _ refl later
+      ])
       | false ↦ (λ e. zero-plus (G b) _ _ (none b e) later)
     ] refl
 

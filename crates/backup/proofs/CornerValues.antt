@@ -60,8 +60,8 @@ worth-is g points y point a h =
     let now : ℤ = total (λ s. total (λ c. b s c *ℤ g.reward s a c *ℤ pos K) (below g.informed_actions)) (below g.states) in
     ap (λ (z : ℤ). now +ℤ P *ℤ z) (total-below g.observations _ _ h ∙ later-is g point a y)
     ∙ ap (λ (z : ℤ). now +ℤ z) (
-      sym (total-scale P (λ s. total (λ c. b s c *ℤ rest s c) (below g.informed_actions)) (below g.states))
-      ∙ total-below g.states _ _ (λ s ls. sym (total-scale P (λ c. b s c *ℤ rest s c) (below g.informed_actions))))
+    sym (total-scale P (λ s. total (λ c. b s c *ℤ rest s c) (below g.informed_actions)) (below g.states))
+    ∙ total-below g.states _ _ (λ s ls. sym (total-scale P (λ c. b s c *ℤ rest s c) (below g.informed_actions))))
     ∙ sym (total-add (λ s. total (λ c. b s c *ℤ g.reward s a c *ℤ pos K) (below g.informed_actions)) (λ s. total (λ c. P *ℤ (b s c *ℤ rest s c)) (below g.informed_actions)) (below g.states))
     ∙ total-below g.states _ _ (λ s ls.
     sym (total-add (λ c. b s c *ℤ g.reward s a c *ℤ pos K) (λ c. P *ℤ (b s c *ℤ rest s c)) (below g.informed_actions))

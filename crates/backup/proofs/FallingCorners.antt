@@ -59,9 +59,9 @@ neg-mul x k = mulℤ_comm (neg_ℤ (pos x)) (pos k) ∙ mul-neg k x ∙ ap (λ z
 pub ceil-of : (w : ℤ) (k : ℕ) → 1 ≤ k → (x : ℤ) × IsCeil w k x
 ceil-of (pos zero) (suc k) some = (pos 0, record { high = omega (arith, ints); low = omega (arith, ints) })
 ceil-of (pos (suc n)) (suc k) some = (
-      pos (suc (n / suc k)),
-      record { high = omega (arith, ints); low = subst (λ (z : ℤ). (z *ℤ pos (suc k)) <ℤ pos (suc n)) (one-less (n / suc k)) (omega (arith, ints)) },
-    )
+  pos (suc (n / suc k)),
+  record { high = omega (arith, ints); low = subst (λ (z : ℤ). (z *ℤ pos (suc k)) <ℤ pos (suc n)) (one-less (n / suc k)) (omega (arith, ints)) },
+)
   where
     one-less : (q : ℕ) → pos q ≡ pos (suc q) -ℤ pos 1
     one-less q = omega (arith, ints)
@@ -69,9 +69,9 @@ ceil-of (negsuc n) (suc k) some =
     let q : ℕ = suc n / suc k in (
       neg_ℤ (pos q),
       record {
-          high = subst (λ (z : ℤ). negsuc n ≤ℤ z) (sym (neg-mul q (suc k))) (above n (q * suc k) (omega arith));
-          low = subst (λ (z : ℤ). (z *ℤ pos (suc k)) <ℤ negsuc n) (sym (next q)) (subst (λ (z : ℤ). z <ℤ negsuc n) (sym (neg-mul (suc q) (suc k))) (under n (suc q * suc k) (omega arith)));
-        },
+        high = subst (λ (z : ℤ). negsuc n ≤ℤ z) (sym (neg-mul q (suc k))) (above n (q * suc k) (omega arith));
+        low = subst (λ (z : ℤ). (z *ℤ pos (suc k)) <ℤ negsuc n) (sym (next q)) (subst (λ (z : ℤ). z <ℤ negsuc n) (sym (neg-mul (suc q) (suc k))) (under n (suc q * suc k) (omega arith)));
+      },
     )
   where
     next : (q : ℕ) → neg_ℤ (pos q) -ℤ pos 1 ≡ neg_ℤ (pos (suc q))

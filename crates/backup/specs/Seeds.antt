@@ -117,4 +117,3 @@ pub record AreSeedPoints (g : GameData) (points : List PointData) : Type 0 where
   pub unsure : (IsSure g.first → ⊥) →
       (root : PointData) × IsRootPoint g (corner_points g values (pure_mixes g replies)) (pure_mixes g replies) root
       × (points ≡ corner_points g values (pure_mixes g replies) ++ root ∷ [])
-

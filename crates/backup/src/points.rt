@@ -41,7 +41,12 @@ pub fn seed_points(alloc: Global, game: &Game) -> Result<PointSet, AllocError>
 }
 
 /// The corner points with these values and replies.
-fn corner_points(alloc: Global, game: &Game, values: &[i128], replies: &[u32]) -> Result<PointSet, AllocError>
+fn corner_points(
+    alloc: Global,
+    game: &Game,
+    values: &[i128],
+    replies: &[u32],
+) -> Result<PointSet, AllocError>
     requires { AreSettled game.now values.now replies.now }
     ensures { IfOk result (λ set. set ≡ corner_points game.now values.now (pure_mixes game.now replies.now)) }
 {
@@ -57,7 +62,12 @@ fn corner_points(alloc: Global, game: &Game, values: &[i128], replies: &[u32]) -
 
 /// Adds the root point to the corner points where the first belief is no corner. As its weights are coprime, they are
 /// more than one in all just there.
-fn add_root(alloc: Global, game: &Game, replies: &[u32], points: &mut PointSet) -> Result<(), AllocError>
+fn add_root(
+    alloc: Global,
+    game: &Game,
+    replies: &[u32],
+    points: &mut PointSet,
+) -> Result<(), AllocError>
     requires { AreCorners game.now replies.now points.old }
     ensures { OnOk result (AreSeeds game.now points.new) }
 {
@@ -70,7 +80,12 @@ fn add_root(alloc: Global, game: &Game, replies: &[u32], points: &mut PointSet) 
 }
 
 /// The point at the first belief, with its value among the corner points.
-fn root_point(alloc: Global, game: &Game, replies: &[u32], corners: &PointSet) -> Result<Point, AllocError>
+fn root_point(
+    alloc: Global,
+    game: &Game,
+    replies: &[u32],
+    corners: &PointSet,
+) -> Result<Point, AllocError>
     requires { AreCorners game.now replies.now corners.now }
     ensures { IfOk result (λ point. IsRootPoint game.now corners.now (pure_mixes game.now replies.now) (point_data point)) }
 {
@@ -81,7 +96,13 @@ fn root_point(alloc: Global, game: &Game, replies: &[u32], corners: &PointSet) -
 }
 
 /// The point at a belief, with this value and the mixes that surely play these replies, split into corners.
-fn point_at(alloc: Global, game: &Game, belief: Belief, value: i128, replies: &[u32]) -> Result<Point, AllocError>
+fn point_at(
+    alloc: Global,
+    game: &Game,
+    belief: Belief,
+    value: i128,
+    replies: &[u32],
+) -> Result<Point, AllocError>
     requires belief { length belief ≡ game.now.shape.states }
     requires states { length replies.now ≡ game.now.shape.states }
     requires actions { AllByRecursion (λ c. c < game.now.shape.informed_actions) replies.now }

@@ -14,7 +14,12 @@ use std::alloc::{AllocError, Global};
 /// # Errors
 ///
 /// Where no memory is to be had.
-pub fn split_into_corners(alloc: Global, game: &Game, belief: &Belief, mixes: &Mixes) -> Result<Vec<Share>, AllocError>
+pub fn split_into_corners(
+    alloc: Global,
+    game: &Game,
+    belief: &Belief,
+    mixes: &Mixes,
+) -> Result<Vec<Share>, AllocError>
     requires { AreOver game.now belief.now mixes.now }
     ensures { IfOk result (λ shares. map branch_of shares.items ≡ corner_shares game.now belief.now mixes.now) }
 {
@@ -26,7 +31,13 @@ pub fn split_into_corners(alloc: Global, game: &Game, belief: &Belief, mixes: &M
 }
 
 /// Adds the shares after an own action.
-fn add_after(game: &Game, belief: &Belief, mixes: &Mixes, a: u32, shares: &mut Vec<Share>) -> Result<(), AllocError>
+fn add_after(
+    game: &Game,
+    belief: &Belief,
+    mixes: &Mixes,
+    a: u32,
+    shares: &mut Vec<Share>,
+) -> Result<(), AllocError>
     requires over { AreOver game.now belief.now mixes.now }
     requires own { a < game.now.shape.own_actions }
     ensures { OnOk result (map branch_of shares.new.items ≡ map branch_of shares.old.items ++ filter has_weight (own_shares game.now belief.now mixes.now a game.now.shape.observations)) }
@@ -38,7 +49,14 @@ fn add_after(game: &Game, belief: &Belief, mixes: &Mixes, a: u32, shares: &mut V
 }
 
 /// Adds the shares after an own action and an observation.
-fn add_seen(game: &Game, belief: &Belief, mixes: &Mixes, a: u32, o: u32, shares: &mut Vec<Share>) -> Result<(), AllocError>
+fn add_seen(
+    game: &Game,
+    belief: &Belief,
+    mixes: &Mixes,
+    a: u32,
+    o: u32,
+    shares: &mut Vec<Share>,
+) -> Result<(), AllocError>
     requires over { AreOver game.now belief.now mixes.now }
     requires own { a < game.now.shape.own_actions }
     requires seen { o < game.now.shape.observations }

@@ -2,7 +2,7 @@ use crate::seed;
 use alpha_set::NodeSet;
 use game_model::{Game, GameBuilder, GameFault, Shape};
 use point_set::{PointSet, Share};
-use std::alloc::{AllocError, Global};
+use std::alloc::Global;
 
 /// Matching pennies in one state, without a future.
 fn pennies(alloc: Global) -> Result<Game, GameFault> {
@@ -48,12 +48,30 @@ fn has_node(nodes: &NodeSet, count: u32, number: u32, vector: &[i128]) -> bool {
 }
 
 /// Whether the point of a number has this belief, this value and these shares.
-fn has_point(points: &PointSet, number: u32, belief: &[i128], value: i128, shares: &[Share]) -> bool {
+fn has_point(
+    points: &PointSet,
+    number: u32,
+    belief: &[i128],
+    value: i128,
+    shares: &[Share],
+) -> bool {
     if number >= points.len() {
         return false;
     }
     let point = points.point(number);
     point.belief.parts() == belief && point.value == value && point.splits.as_slice() == shares
+}
+
+/// Whether the mix of the only state at a point plays two informed actions by these weights.
+fn has_mix(points: &PointSet, number: u32, first: i128, second: i128) -> bool {
+    if number >= points.len() {
+        return false;
+    }
+    let mixes = &points.point(number).mixes;
+    mixes.states() == 1
+        && mixes.actions() == 2
+        && mixes.get(0, 0) == first
+        && mixes.get(0, 1) == second
 }
 
 /// A share after an own action.
@@ -78,6 +96,7 @@ fn seeds_of_matching_pennies_have_no_root(rt: HostRuntime) {
     assert!(rt; has_node(&nodes, 2, 1, &[-65_536]));
     assert_eq!(rt; points.len(), 1);
     assert!(rt; has_point(&points, 0, &[1], 65_536, &[share(0, 0), share(1, 0)]));
+    assert!(rt; has_mix(&points, 0, 65_536, 0));
 }
 
 #[test]
