@@ -1,7 +1,7 @@
 -- The node that always plays one action fits the game and stands.
-use Rattle.std.proofs.Common.{◌≡◌, ℕ, zero, suc, ◌+◌, ◌*◌, ◌<◌, ◌≤◌, Bool, true, false, cond, ◌==◌, ◌&&◌, List, [], ◌∷◌, length, get_or, map, filter, refl, ap, arith, sym, subst, ◌∙◌, inl, inr, eq-eqb, ne_eqb}
+use Rattle.std.proofs.Common.{◌≡◌, ℕ, zero, suc, ◌+◌, ◌*◌, ◌<◌, Bool, true, false, cond, ◌==◌, ◌&&◌, List, [], ◌∷◌, length, map, filter, refl, ap, arith, sym, subst, ◌∙◌, inl, inr}
 use Rattle.std.specs.Prelude.{ℤ, pos, neg_ℤ, ◌+ℤ◌, ◌*ℤ◌, ◌≤ℤ◌, unsigned_abs}
-use Rattle.std.specs.List.{AllByRecursion, range_with_len}
+use Rattle.std.specs.List.{range_with_len}
 use Rattle.std.proofs.lemmas.Int.{ints}
 use Rattle.scaled_num.specs.Share.{at}
 use Rattle.scaled_num.specs.Sums.{below, total}
@@ -10,11 +10,11 @@ use Rattle.scaled_num.proofs.Sums.{below-each, each-map, total-below, total-map,
 use Rattle.game_model.specs.Branches.{AreRising, Branch, IsBranch, branches_at, mix_total}
 use Rattle.game_model.specs.Game.{GameData, IsGame, IsWithin, numbers, span, unit}
 use Rattle.game_model.specs.Numbers.{Numbers, over_row}
-use Rattle.game_model.specs.Seeds.{IsSeed, KeepsSpan, stage_worth}
+use Rattle.game_model.specs.Seeds.{IsSeed, stage_worth}
 use Rattle.game_model.proofs.Games.{keeps-span}
 use Rattle.game_model.proofs.SeedVectors.{seeds-stand}
-use Rattle.alpha_set.specs.Nodes.{Node, NodeData, NodeFits, NodeStands, Step, node_of, nodes_of, step_of, steps_at, steps_worth}
-use Rattle.backup.specs.Seeds.{always_node, pure_mix}
+use Rattle.alpha_set.specs.Nodes.{Node, NodeFits, NodeStands, Step, node_of, step_of, steps_worth}
+use Rattle.backup.specs.Seeds.{always_node}
 use Rattle.backup.proofs.Placed.{placed-at, placed-long, placed-sum, placed-within, turn}
 use Rattle.backup.proofs.Places.{each-places}
 

@@ -1,10 +1,10 @@
 -- The seed nodes, as a list, fit the game and stand.
-use Rattle.std.proofs.Common.{◌≡◌, ℕ, ◌<◌, ◌≤◌, List, length, get_or, ap, arith, sym, subst}
+use Rattle.std.proofs.Common.{ℕ, ◌<◌, List, length, ap, sym, subst}
 use Rattle.std.specs.List.{AllByRecursion}
 use Rattle.scaled_num.specs.Share.{at}
 use Rattle.game_model.specs.Game.{GameData, IsGame, numbers}
-use Rattle.alpha_set.specs.Nodes.{NodeData, NodeFits, NodeStands, Node, no_node, node_of, nodes_of}
-use Rattle.backup.specs.Seeds.{AreSeedNodes, IsSeedNode, always_node}
+use Rattle.alpha_set.specs.Nodes.{NodeData, NodeFits, NodeStands, no_node, node_of, nodes_of}
+use Rattle.backup.specs.Seeds.{AreSeedNodes}
 use Rattle.backup.proofs.AlwaysNodes.{always-fits, always-stands}
 use Rattle.backup.proofs.Places.{each-places}
 

@@ -1,21 +1,20 @@
 -- A point that is split into corners fits the game.
-use Rattle.std.proofs.Common.{◌≡◌, ℕ, zero, suc, ◌+◌, ◌*◌, ◌^◌, ◌<◌, ◌≤◌, Bool, true, false, cond, ltb, List, [], ◌∷◌, ◌++◌, length, get_or, map, filter, refl, ap, arith, sym, subst, ◌∙◌, inl, inr}
-use Rattle.std.specs.Prelude.{ℤ, pos, neg_ℤ, ◌*ℤ◌, ◌≤ℤ◌, unsigned_abs, flat_map, sum_by}
+use Rattle.std.proofs.Common.{◌≡◌, ℕ, zero, suc, ◌+◌, ◌*◌, ◌^◌, ◌<◌, ◌≤◌, Bool, true, false, cond, List, [], ◌∷◌, ◌++◌, map, filter, refl, ap, arith, sym, subst, ◌∙◌, inl, inr}
+use Rattle.std.specs.Prelude.{ℤ, pos, neg_ℤ, ◌*ℤ◌, unsigned_abs, flat_map, sum_by}
 use Rattle.std.specs.List.{AllByRecursion, range_with_len}
-use Rattle.std.proofs.Math.Nat.{mul-le-mul_left, mul-le-mul_right}
+use Rattle.std.proofs.Math.Nat.{mul-le-mul_left}
 use Rattle.std.proofs.lemmas.Int.{ints}
-use Rattle.std.proofs.lemmas.Nat.{mul-le}
 use Rattle.std.proofs.lemmas.Bool.{ltb-true}
 use Rattle.scaled_num.specs.Sums.{below, sum_of}
 use Rattle.scaled_num.proofs.Sums.{below-each, each, each-append, each-flat_map, each-map, from-each}
-use Rattle.game_model.specs.Branches.{AreBranches, AreRising, Branch, IsBranch, IsBranchBefore, mix_total}
+use Rattle.game_model.specs.Branches.{AreRising, Branch, IsBranch, IsBranchBefore}
 use Rattle.game_model.specs.Game.{AreCoprime, GameData, IsBelief, IsGame, IsWithin, numbers, span}
 use Rattle.game_model.proofs.Games.{keeps-span}
 use Rattle.game_model.proofs.Pay.{each-from}
 use Rattle.belief.specs.Beliefs.{mix_weight, weight_at}
 use Rattle.belief.specs.Mixes.{AreMixes, MixesData}
 use Rattle.belief.proofs.Landings.{each-filter}
-use Rattle.point_set.specs.Points.{PointFits, mass, most_share, point_of}
+use Rattle.point_set.specs.Points.{PointFits, most_share, point_of}
 use Rattle.point_set.proofs.Masses.{belief-total, masses-sum, mix-total}
 use Rattle.point_set.proofs.Running.{at-most-sum}
 use Rattle.backup.specs.Seeds.{corner_shares, corner_split, has_weight, mass_at}

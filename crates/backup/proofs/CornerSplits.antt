@@ -1,16 +1,16 @@
 -- Shares that split masses into corners make them up.
-use Rattle.std.proofs.Common.{◌≡◌, ℕ, zero, suc, ◌+◌, ◌*◌, ◌<◌, ◌≤◌, Bool, true, false, cond, ltb, ◌==◌, ◌&&◌, List, [], ◌∷◌, map, filter, refl, ap, arith, sym, subst, ◌∙◌}
-use Rattle.std.specs.Prelude.{ℤ, pos, ◌+ℤ◌, ◌*ℤ◌, unsigned_abs, flat_map, sum_by}
+use Rattle.std.proofs.Common.{◌≡◌, ℕ, ◌*◌, ◌<◌, ◌≤◌, Bool, true, false, cond, ◌==◌, ◌&&◌, List, [], ◌∷◌, map, filter, refl, ap, arith, sym, ◌∙◌}
+use Rattle.std.specs.Prelude.{ℤ, pos, ◌+ℤ◌, ◌*ℤ◌, unsigned_abs, flat_map}
 use Rattle.std.proofs.lemmas.Int.{ints}
 use Rattle.std.proofs.lemmas.Bool.{ltb-false}
 use Rattle.scaled_num.specs.Sums.{below, total}
 use Rattle.scaled_num.proofs.Products.{mulℤ_comm}
-use Rattle.scaled_num.proofs.Sums.{total-below, total-flat_map, total-map, total-pos, total-same, total-scale, total-single, each}
+use Rattle.scaled_num.proofs.Sums.{total-below, total-flat_map, total-map, total-pos, total-scale, total-single}
 use Rattle.game_model.specs.Branches.{Branch}
 use Rattle.game_model.specs.Game.{GameData, numbers}
 use Rattle.belief.specs.Mixes.{MixesData}
-use Rattle.point_set.specs.Points.{Point, Share, SplitHolds, mass, point_of, share_of, shared, shares_at}
-use Rattle.backup.specs.Seeds.{corner_shares, corner_split, has_weight, mass_at}
+use Rattle.point_set.specs.Points.{Point, Share, SplitHolds, point_of, share_of, shares_at}
+use Rattle.backup.specs.Seeds.{corner_split, has_weight, mass_at}
 use Rattle.backup.proofs.Placed.{turn}
 
 zero-plus : (x y z : ℤ) → x ≡ pos 0 → z ≡ y → z ≡ x +ℤ y

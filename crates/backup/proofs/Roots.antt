@@ -1,10 +1,9 @@
 -- The value of a point that is split into corners lies within the span, and by it the point stands.
-use Rattle.std.proofs.Common.{◌≡◌, ℕ, suc, ◌+◌, ◌*◌, ◌<◌, ◌≤◌, ap, arith, sym, subst, ◌∙◌}
-use Rattle.std.specs.Prelude.{ℤ, pos, neg_ℤ, ◌+ℤ◌, ◌-ℤ◌, ◌*ℤ◌, ◌≤ℤ◌, ◌<ℤ◌, sum_by}
+use Rattle.std.proofs.Common.{◌≡◌, ℕ, ◌*◌, ◌<◌, ◌≤◌, ap, arith, subst, ◌∙◌}
+use Rattle.std.specs.Prelude.{ℤ, pos, neg_ℤ, ◌*ℤ◌, ◌≤ℤ◌, sum_by}
 use Rattle.std.proofs.lemmas.Int.{ints}
-use Rattle.std.proofs.Math.Nat.{mul-le-mul_left}
 use Rattle.scaled_num.specs.Sums.{below, total}
-use Rattle.scaled_num.proofs.Products.{le-mulℤ, mulℤ_comm, products, sums}
+use Rattle.scaled_num.proofs.Products.{le-mulℤ, products, sums}
 use Rattle.scaled_num.proofs.Sums.{total-below, total-below-le, total-scale, total-weights}
 use Rattle.game_model.specs.Branches.{mix_total}
 use Rattle.game_model.specs.Numbers.{Numbers}

@@ -1,28 +1,27 @@
 -- The seed points fit the game and stand.
-use Rattle.std.proofs.Common.{◌≡◌, ℕ, zero, suc, ◌+◌, ◌*◌, ◌^◌, ◌<◌, ◌≤◌, cond, ◌==◌, List, [], ◌∷◌, ◌++◌, length, get_or, map, refl, ap, arith, sym, subst, ◌∙◌, inl, inr, ◌⊎◌}
-use Rattle.std.specs.Prelude.{ℤ, pos, neg_ℤ, ◌*ℤ◌, ◌≤ℤ◌, ◌<ℤ◌, unsigned_abs, sum_by}
+use Rattle.std.proofs.Common.{◌≡◌, ℕ, ◌+◌, ◌*◌, ◌^◌, ◌<◌, ◌≤◌, List, [], ◌∷◌, ◌++◌, length, get_or, refl, ap, arith, sym, subst, ◌∙◌, inl, inr, ◌⊎◌}
+use Rattle.std.specs.Prelude.{ℤ, pos, neg_ℤ, ◌*ℤ◌, ◌≤ℤ◌, ◌<ℤ◌, unsigned_abs}
 use Rattle.std.specs.List.{AllByRecursion}
 use Rattle.std.proofs.lemmas.Int.{ints}
 use Rattle.std.proofs.lemmas.List.{get_or_append_left, length-append}
 use Rattle.std.proofs.Math.Seq.{get_or-append_seam}
 use Rattle.std.proofs.lemmas.List.FromFn.{get_or-map-range_with_len, length-map-range_with_len}
 use Rattle.scaled_num.specs.Share.{at}
-use Rattle.scaled_num.specs.Sums.{below, sum_of}
+use Rattle.scaled_num.specs.Sums.{sum_of}
 use Rattle.scaled_num.proofs.Sums.{each-at}
 use Rattle.game_model.proofs.Pay.{each-from}
-use Rattle.game_model.specs.Branches.{Branch, IsBranch, mix_total}
-use Rattle.game_model.specs.Game.{AreCoprime, GameData, IsBelief, IsGame, IsWithin, numbers, span}
-use Rattle.game_model.specs.Numbers.{Numbers}
+use Rattle.game_model.specs.Branches.{Branch, IsBranch}
+use Rattle.game_model.specs.Game.{GameData, IsBelief, IsGame, IsWithin, numbers, span}
 use Rattle.game_model.proofs.Games.{keeps-span}
-use Rattle.belief.specs.Beliefs.{corner_of, mix_weight, weight_at}
-use Rattle.belief.specs.Mixes.{MixesData, pure_mixes}
+use Rattle.belief.specs.Beliefs.{corner_of}
+use Rattle.belief.specs.Mixes.{pure_mixes}
 use Rattle.belief.proofs.Parts.{corner-parts}
 use Rattle.point_set.specs.Members.{most_points}
 use Rattle.point_set.proofs.Fitting.{fits-more}
-use Rattle.point_set.specs.Points.{Point, PointData, PointFits, PointStands, most_share, no_point, point_of, point_worth, points_of}
+use Rattle.point_set.specs.Points.{Point, PointData, PointFits, PointStands, most_share, no_point, point_of, points_of}
 use Rattle.point_set.proofs.Masses.{belief-total, mix-total}
 use Rattle.backup.specs.Rounds.{AreSettled}
-use Rattle.backup.specs.Seeds.{AreCornerValues, AreSeedPoints, IsEvaluation, IsRootPoint, corner_points, corner_split}
+use Rattle.backup.specs.Seeds.{IsEvaluation, IsRootPoint, corner_points, corner_split}
 use Rattle.backup.specs.Shares.{AreCorners, AreSeeds, IsSplitAmong}
 use Rattle.backup.proofs.Sure.{total-more, total-one}
 use Rattle.backup.proofs.FallingCorners.{KeepsCorners, corner-holds, values-within}

@@ -1,5 +1,5 @@
 -- The lists of shares as they grow.
-use Rattle.std.proofs.Common.{◌≡◌, ℕ, zero, suc, ◌+◌, ◌<◌, Bool, true, false, cond, List, [], ◌∷◌, ◌++◌, length, map, filter, refl, ap, arith, sym, subst, ◌∙◌, append_assoc, append-nil}
+use Rattle.std.proofs.Common.{◌≡◌, ℕ, zero, suc, ◌+◌, ◌<◌, Bool, true, false, cond, List, [], ◌∷◌, ◌++◌, map, filter, refl, ap, arith, sym, ◌∙◌, append_assoc, append-nil}
 use Rattle.std.specs.Prelude.{ℤ, pos, negsuc, flat_map, unsigned_abs, FitsSigned}
 use Rattle.std.specs.Int.{w128}
 use Rattle.std.proofs.Common.{of_z, ltb}
@@ -11,7 +11,6 @@ use Rattle.std.proofs.lemmas.List.{map-append}
 use Rattle.std.proofs.lemmas.List.Elements.{filter-append}
 use Rattle.std.proofs.lemmas.List.FromFn.{filter_of_map_range_with_len_more}
 use Rattle.std.proofs.lemmas.Grind.{flat_map-append}
-use Rattle.scaled_num.specs.Share.{at}
 use Rattle.scaled_num.specs.Sums.{below}
 use Rattle.scaled_num.proofs.Sums.{below-each}
 use Rattle.game_model.specs.Branches.{Branch}
@@ -19,7 +18,7 @@ use Rattle.game_model.specs.Game.{GameData}
 use Rattle.belief.specs.Mixes.{MixesData}
 use Rattle.point_set.specs.Members.{branch_of}
 use Rattle.point_set.specs.declared.points.Share.{Share}
-use Rattle.backup.specs.Seeds.{has_weight, mass_at}
+use Rattle.backup.specs.Seeds.{has_weight}
 use Rattle.backup.specs.Shares.{first_shares, own_shares, row_shares, seen_shares}
 
 row-more : (w : ℕ → ℤ) (a o t : ℕ) →

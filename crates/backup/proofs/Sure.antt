@@ -1,12 +1,11 @@
 -- A belief of total 1 is sure of a state, and one of a greater total is sure of none.
-use Rattle.std.proofs.Common.{◌≡◌, Bool, true, false, ℕ, zero, suc, ◌+◌, ◌^◌, ◌<◌, ◌≤◌, List, [], ◌∷◌, length, replicate, refl, ap, arith, sym, subst, ◌∙◌, inl, inr, ◌⊎◌}
+use Rattle.std.proofs.Common.{◌≡◌, Bool, true, false, zero, suc, List, [], ◌∷◌, length, replicate, refl, ap, arith, sym, subst, ◌∙◌, inl, inr, ◌⊎◌}
 use Rattle.std.specs.Prelude.{ℤ, pos, negsuc, ◌+ℤ◌, ◌≤ℤ◌, ◌<ℤ◌, not}
 use Rattle.std.specs.List.{AllByRecursion}
 use Rattle.std.proofs.lemmas.Int.{ints}
 use Rattle.std.specs.Int.Signed.{lt_z, lt_z_no, lt_z_yes}
 use Rattle.std.proofs.Math.Dec.{T}
 use Rattle.scaled_num.specs.Sums.{sum_of}
-use Rattle.belief.specs.Beliefs.{corner_of}
 use Rattle.backup.specs.Seeds.{IsSure}
 use Rattle.backup.proofs.Placed.{placed-sum}
 

@@ -5,7 +5,7 @@ use Rattle.std.proofs.lemmas.Int.{to_z-of_z}
 use Rattle.scaled_num.specs.Share.{at}
 use Rattle.game_model.specs.Game.{GameData, numbers, span}
 use Rattle.game_model.proofs.Worth.{divisor-fits, divisor-is, divisor-positive}
-use Rattle.backup.proofs.FallingCorners.{IsCeil, ceil-greatest, divisor-some}
+use Rattle.backup.proofs.FallingCorners.{ceil-greatest, divisor-some}
 use Rattle.backup.proofs.Replies.{ceil-is, ceil-within}
 use Rattle.backup.proofs.corners.greatest_ceil.Goals as goal
 

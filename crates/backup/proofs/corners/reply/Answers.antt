@@ -1,10 +1,9 @@
-use Rattle.std.proofs.Common.{rules, arith, ◌≡◌, ◌+◌, ◌≤◌, ℕ, subst}
+use Rattle.std.proofs.Common.{rules, arith, ◌≡◌}
 use Rattle.std.specs.Prelude.{ℤ, FitsSigned}
 use Rattle.std.specs.Int.{w128, cast_signed}
 use Rattle.std.proofs.lemmas.Int.{to_z-of_z}
 use Rattle.scaled_num.specs.Share.{at}
 use Rattle.game_model.specs.Game.{GameData, numbers, span}
-use Rattle.backup.specs.Rounds.{IsReplyAmong}
 use Rattle.backup.proofs.Replies.{kept, reply-all, reply-one, taken}
 use Rattle.backup.proofs.corners.reply.Goals as goal
 use Rattle.backup.proofs.corners.reply.Goals.{then-value-least, else-value-least}

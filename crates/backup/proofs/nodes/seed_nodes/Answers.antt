@@ -1,4 +1,4 @@
-use Rattle.std.proofs.Common.{◌≡◌, ℕ, arith}
+use Rattle.std.proofs.Common.{◌≡◌, arith}
 use Rattle.game_model.specs.Game.{GameData}
 use Rattle.alpha_set.specs.Members.{node_data}
 use Rattle.alpha_set.specs.Nodes.{no_node}

@@ -1,9 +1,6 @@
-use Rattle.std.proofs.Common.{◌≡◌, ◌<◌, ◌∙◌, ℕ, List, length, ap, arith, sym, subst}
+use Rattle.std.proofs.Common.{◌≡◌, ◌∙◌, List, length, sym, subst}
 use Rattle.std.specs.Prelude.{ℤ}
-use Rattle.std.proofs.lemmas.List.{length-replicate}
-use Rattle.scaled_num.specs.Share.{at}
-use Rattle.game_model.specs.Game.{GameData, numbers, span}
-use Rattle.game_model.specs.Seeds.{IsSeed}
+use Rattle.game_model.specs.Game.{GameData}
 use Rattle.backup.specs.Steps.{IsSeedVector}
 use Rattle.backup.proofs.Places.{front-is}
 use Rattle.backup.proofs.nodes.seed_vector.Goals as goal

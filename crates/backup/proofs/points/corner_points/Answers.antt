@@ -1,4 +1,4 @@
-use Rattle.std.proofs.Common.{rules, arith, ◌≡◌, ◌∙◌, ◌++◌, ◌∷◌, ◌<◌, [], ℕ, List, ap, get_or, length, of_z, sym, to_z}
+use Rattle.std.proofs.Common.{rules, arith, ◌≡◌, ◌∙◌, ◌++◌, ◌∷◌, [], ℕ, List, ap, get_or, length, of_z, sym, to_z}
 use Rattle.std.specs.Prelude.{ℤ, pos, FitsSigned}
 use Rattle.std.specs.Int.{w128}
 use Rattle.std.proofs.lemmas.Int.{to_z-of_z}
@@ -7,7 +7,7 @@ use Rattle.belief.specs.Beliefs.{corner_of}
 use Rattle.belief.specs.Mixes.{MixesData, pure_mixes}
 use Rattle.scaled_num.specs.Share.{at}
 use Rattle.game_model.specs.Game.{GameData}
-use Rattle.point_set.specs.Members.{most_points, point_data}
+use Rattle.point_set.specs.Members.{point_data}
 use Rattle.point_set.specs.Points.{PointData}
 use Rattle.backup.specs.Seeds.{corner_split}
 use Rattle.backup.specs.Shares.{first_corners}

@@ -1,11 +1,10 @@
-use Rattle.std.proofs.Common.{rules, ◌≡◌, ◌∙◌, List, ap}
+use Rattle.std.proofs.Common.{rules, ◌∙◌, List, ap}
 use Rattle.std.specs.Prelude.{ℤ, pos, FitsSigned}
 use Rattle.std.specs.Int.{w128}
 use Rattle.std.proofs.lemmas.Int.{to_z-of_z}
 use Rattle.belief.specs.Mixes.{pure_mixes}
 use Rattle.game_model.specs.Game.{GameData}
 use Rattle.point_set.specs.Members.{point_data}
-use Rattle.point_set.specs.Points.{PointData}
 use Rattle.backup.specs.Seeds.{corner_split}
 use Rattle.backup.proofs.SeedPoints.{root-among, root-is}
 use Rattle.backup.proofs.points.root_point.Goals as goal

@@ -11,7 +11,7 @@ use Rattle.point_set.specs.Points.{points_of}
 use Rattle.point_set.specs.declared.points.Point.{Point as PointParts}
 use Rattle.point_set.specs.declared.points.Share.{Share as ShareParts}
 use Rattle.point_set.proofs.Named.{named-all}
-use Rattle.point_set.proofs.Worth.{counted-small, formed, formed-fits, formed-is, later-size, later_bound, limit, limit-is, order-is, rewards-fit, scale-fits}
+use Rattle.point_set.proofs.Worth.{counted-small, formed, formed-fits, formed-is, later-size, later_bound, rewards-fit, scale-fits}
 use Rattle.point_set.proofs.values.worth_after.Goals as goal
 
 pub counted-requires-clause-named : goal.counted-requires-clause-named
