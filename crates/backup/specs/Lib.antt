@@ -1,1 +1,4 @@
 pub mod Seeds
+pub mod Rounds
+pub mod Steps
+pub mod Shares

@@ -1,5 +1,5 @@
 -- The seeds: the first nodes and points, which bound every plan before any search.
-use Rattle.std.specs.Prelude.{ℕ, zero, suc, ℤ, pos, Bool, List, [], ◌∷◌, ◌++◌, filter, flat_map, length, map, replicate, ltb, ◌-◌, slice_index_or, slice_set, unsigned_abs, ◌≡◌, ◌<◌, ◌*◌, ◌+ℤ◌, ◌-ℤ◌, ◌*ℤ◌, ◌≤ℤ◌, ◌<ℤ◌}
+use Rattle.std.specs.Prelude.{ℕ, zero, suc, ℤ, pos, Bool, List, [], ◌∷◌, ◌++◌, filter, flat_map, length, map, replicate, ltb, ◌-◌, slice_index_or, slice_set, unsigned_abs, ◌≡◌, ◌<◌, ◌*◌, ◌-ℤ◌, ◌*ℤ◌, ◌≤ℤ◌, ◌<ℤ◌}
 use Rattle.scaled_num.specs.Share.{at}
 use Rattle.scaled_num.specs.Sums.{below}
 use Rattle.game_model.specs.Branches.{Branch, mix_total}
@@ -9,7 +9,7 @@ use Rattle.game_model.specs.Seeds.{IsSeed, seed_rounds, stage_worth}
 use Rattle.belief.specs.Beliefs.{corner_of, mix_weight, weight_at}
 use Rattle.belief.specs.Mixes.{MixesData, mass_of, pure_mixes}
 use Rattle.alpha_set.specs.Nodes.{NodeData, no_node}
-use Rattle.point_set.specs.Points.{Point, PointData, no_point, point_of, point_worth, points_of}
+use Rattle.point_set.specs.Points.{Point, PointData, point_of, point_worth, points_of}
 
 -- ---- the seed nodes
 
@@ -117,4 +117,3 @@ pub record AreSeedPoints (g : GameData) (points : List PointData) : Type 0 where
   pub unsure : (IsSure g.first → ⊥) →
       (root : PointData) × IsRootPoint g (corner_points g values (pure_mixes g replies)) (pure_mixes g replies) root
       × (points ≡ corner_points g values (pure_mixes g replies) ++ root ∷ [])
-

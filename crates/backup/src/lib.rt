@@ -1,6 +1,12 @@
 //! The first nodes and points of a search, and what backups add to them.
 #![tactic(auto)]
 
+mod corners;
+mod nodes;
+mod points;
 mod seeds;
+mod shares;
+#[cfg(test)]
+mod tests;
 
 pub use seeds::seed;

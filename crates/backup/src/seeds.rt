@@ -5,6 +5,8 @@ ghost use Rattle.point_set.specs.Points.{PointFits, PointStands, points_of};
 ghost use Rattle.std.specs.List.{AllByRecursion};
 ghost use Rattle.std.specs.Prelude.{IfOk, length, ℕ, ◌<◌};
 
+use crate::nodes::seed_nodes;
+use crate::points::seed_points;
 use alpha_set::NodeSet;
 use game_model::Game;
 use point_set::PointSet;
@@ -26,5 +28,7 @@ pub fn seed(alloc: Global, game: &Game) -> Result<(NodeSet, PointSet), AllocErro
     ensures points_fit { IfOk result (λ sets. AllByRecursion (PointFits game.now (length sets.1)) sets.1) }
     ensures points_stand { IfOk result (λ sets. (j : ℕ) → j < length sets.1 → PointStands (numbers game.now) (points_of sets.1) (points_of sets.1 j)) }
 {
-    Err(AllocError)
+    let nodes = seed_nodes(alloc, game)?;
+    let points = seed_points(alloc, game)?;
+    Ok((nodes, points))
 }

@@ -245,13 +245,12 @@ pub record FormedFits (g : GameData) (p : PointParts) (rewards later : ℤ) : Ty
   pub under : FitsSigned w128 g.shape.discount.1
   pub rewards_fit : FitsSigned w128 rewards
   pub later_fits : FitsSigned w128 later
-  pub value_fits : FitsSigned w128 p.value
   pub divisor : FitsSigned w128 (g.shape.row_total *ℤ g.shape.discount.1)
   pub scale : FitsSigned w128 (pos 65536 *ℤ (g.shape.row_total *ℤ g.shape.discount.1))
   pub at_once : FitsSigned w128 ((pos 65536 *ℤ (g.shape.row_total *ℤ g.shape.discount.1)) *ℤ rewards)
   pub discounted : FitsSigned w128 (g.shape.discount.0 *ℤ later)
   pub all : FitsSigned w128 (formed g rewards later)
-  pub right : FitsSigned w128 (limit g p)
+  pub small : unsigned_abs (formed g rewards later) ≤ 2 ^ 125
 
 pub formed-fits : (g : GameData) → IsGame g → (points : List PointParts) (p : PointParts) → IsMember g points p → SplitsHold (numbers g) (points_of (data_of points)) (point_of (point_data p)) → (a : ℕ) → a < g.shape.own_actions → (rewards later : ℤ) →
     rewards ≡ total (λ s. pos (weight_at p.belief s) *ℤ row_rewards g p.mixes a s) (below g.shape.states) → unsigned_abs later ≤ span g * (unsigned_abs g.shape.row_total * 65536 * belief_sum g p) → FormedFits g p rewards later
@@ -278,23 +277,20 @@ formed-fits g h points p member splits a la rewards later is small =
     let room_three = over-room D P Q R V (unsigned_abs later) w room_two in
     let later_size = room_three.1 in
     let discounted_size : unsigned_abs (g.shape.discount.0 *ℤ later) ≤ 2 ^ 124 = rw (unsigned_abs-mul g.shape.discount.0 later) room_three.0 in
-    let y_size : unsigned_abs p.value ≤ V * B = value-size g p member.fits in
-    let limit_size : unsigned_abs (limit g p) ≤ 2 ^ 124 = rw (unsigned_abs-mul p.value (pos 65536 *ℤ (g.shape.row_total *ℤ g.shape.discount.1)), scale_size) (value-room D P Q R V B (unsigned_abs p.value) w lb y_size) in
     let rewards_small : unsigned_abs rewards ≤ 2 ^ 124 = rewards-small B R (unsigned_abs rewards) lb (greatest-small g h) rewards_size in
-    let value_small : unsigned_abs p.value ≤ 2 ^ 124 = omega (arith, y_size, mul-le V B (2 ^ 66) (2 ^ 20) (span-small g h) lb) in
+    let all_size : unsigned_abs (formed g rewards later) ≤ 2 ^ 125 = omega (arith, abs-add ((pos 65536 *ℤ (g.shape.row_total *ℤ g.shape.discount.1)) *ℤ rewards) (g.shape.discount.0 *ℤ later)) in
     record {
       whole = fits_signed_from_abs w128 g.shape.row_total (omega arith);
       over = fits_signed_from_abs w128 g.shape.discount.0 (omega arith);
       under = fits_signed_from_abs w128 g.shape.discount.1 (omega arith);
       rewards_fit = fits_signed_from_abs w128 rewards (omega arith);
       later_fits = fits_signed_from_abs w128 later (omega arith);
-      value_fits = fits_signed_from_abs w128 p.value (omega arith);
       divisor = fits_signed_from_abs w128 (g.shape.row_total *ℤ g.shape.discount.1) (omega arith);
       scale = fits_signed_from_abs w128 (pos 65536 *ℤ (g.shape.row_total *ℤ g.shape.discount.1)) (omega arith);
       at_once = fits_signed_from_abs w128 ((pos 65536 *ℤ (g.shape.row_total *ℤ g.shape.discount.1)) *ℤ rewards) (omega arith);
       discounted = fits_signed_from_abs w128 (g.shape.discount.0 *ℤ later) (omega arith);
-      all = fits_signed_from_abs w128 (formed g rewards later) (omega (arith, abs-add ((pos 65536 *ℤ (g.shape.row_total *ℤ g.shape.discount.1)) *ℤ rewards) (g.shape.discount.0 *ℤ later)));
-      right = fits_signed_from_abs w128 (limit g p) (omega arith);
+      all = fits_signed_from_abs w128 (formed g rewards later) (omega arith);
+      small = all_size;
     }
   where
     rewards-small : (B R r : ℕ) → B ≤ 2 ^ 20 → R ≤ 2 ^ 30 → r ≤ B * (65536 * R) → r ≤ 2 ^ 124
@@ -349,6 +345,42 @@ scale-fits g h =
       under = fits_signed_from_abs w128 g.shape.discount.1 (omega arith);
       divisor = fits_signed_from_abs w128 (g.shape.row_total *ℤ g.shape.discount.1) (omega arith);
       scale = fits_signed_from_abs w128 (pos 65536 *ℤ (g.shape.row_total *ℤ g.shape.discount.1)) (omega arith);
+    }
+
+-- the value rule's right side
+pub record LimitFits (g : GameData) (p : PointParts) : Type 0 where
+  pub whole : FitsSigned w128 g.shape.row_total
+  pub over : FitsSigned w128 g.shape.discount.0
+  pub under : FitsSigned w128 g.shape.discount.1
+  pub divisor : FitsSigned w128 (g.shape.row_total *ℤ g.shape.discount.1)
+  pub scale : FitsSigned w128 (pos 65536 *ℤ (g.shape.row_total *ℤ g.shape.discount.1))
+  pub value_fits : FitsSigned w128 p.value
+  pub right : FitsSigned w128 (limit g p)
+
+pub limit-fits : (g : GameData) → IsGame g → (p : PointParts) → PointFits g most_points (point_data p) → LimitFits g p
+limit-fits g h p fits =
+    let D : ℕ = unsigned_abs g.shape.row_total in
+    let P : ℕ = unsigned_abs g.shape.discount.0 in
+    let Q : ℕ = unsigned_abs g.shape.discount.1 in
+    let R : ℕ = greatest_reward g in
+    let V : ℕ = span g in
+    let B : ℕ = belief_sum g p in
+    let lb = belief-small g p fits in
+    let s = scale-fits g h in
+    let divisor_size : unsigned_abs (g.shape.row_total *ℤ g.shape.discount.1) ≡ D * Q = unsigned_abs-mul g.shape.row_total g.shape.discount.1 in
+    let scale_size : unsigned_abs (pos 65536 *ℤ (g.shape.row_total *ℤ g.shape.discount.1)) ≡ 65536 * (D * Q) = unsigned_abs-mul (pos 65536) (g.shape.row_total *ℤ g.shape.discount.1) ∙ ap (λ (n : ℕ). 65536 * n) divisor_size in
+    let y_size : unsigned_abs p.value ≤ V * B = value-size g p fits in
+    let limit_size : unsigned_abs (limit g p) ≤ 2 ^ 124 =
+    rw (unsigned_abs-mul p.value (pos 65536 *ℤ (g.shape.row_total *ℤ g.shape.discount.1)), scale_size) (value-room D P Q R V B (unsigned_abs p.value) (widths g h) lb y_size) in
+    let value_small : unsigned_abs p.value ≤ 2 ^ 124 = omega (arith, y_size, mul-le V B (2 ^ 66) (2 ^ 20) (span-small g h) lb) in
+    record {
+      whole = s.whole;
+      over = s.over;
+      under = s.under;
+      divisor = s.divisor;
+      scale = s.scale;
+      value_fits = fits_signed_from_abs w128 p.value (omega arith);
+      right = fits_signed_from_abs w128 (limit g p) (omega arith);
     }
 
 -- before the shares are counted

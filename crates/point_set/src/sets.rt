@@ -1,7 +1,7 @@
 ghost use Rattle.point_set.specs.Corners.{HasCorner, IsCurrentCorner};
-ghost use Rattle.point_set.specs.Faults.{FailsFirst};
+ghost use Rattle.point_set.specs.Faults.{FailsFirst, SplitsHold};
 ghost use Rattle.point_set.specs.Members.{most_points, point_data};
-ghost use Rattle.point_set.specs.Points.{PointFits, PointStands, no_point, points_of};
+ghost use Rattle.point_set.specs.Points.{PointFits, PointStands, no_point, point_of, point_worth, points_of};
 ghost use Rattle.point_set.specs.Sawtooth.{AreCorners, AreMeasured, IsSawtooth};
 ghost use Rattle.point_set.specs.Split.{IsSplit, IsWanted, MakesUp};
 ghost use Rattle.game_model.specs.Game.{numbers};
@@ -14,6 +14,7 @@ use crate::points::Point;
 use crate::sawtooth::sawtooth_bound;
 use crate::split::{Split, split_mass};
 use crate::stands::{PointFault, first_fault};
+use crate::values::worth_after;
 use game_model::{Game, MOST_STATES};
 use std::alloc::Global;
 use std::marker::Model;
@@ -161,5 +162,19 @@ impl PointSet {
         ensures first { IfSome result (FailsFirst (numbers game.now) (points_of self.now) (points_of self.now j)) }
     {
         first_fault(game, &self.points, &self.points[j as usize])
+    }
+
+    /// What one stage costs at most after own action `a` for a point whose splits hold among the points of the set,
+    /// times the mix total, the row total and the discount's denominator: the left side of the value rule. The point
+    /// need not be in the set. It takes no memory.
+    pub fn stage_worth(&self, game: &Game, point: &Point, a: u32) -> i128
+        requires own { a < game.now.shape.own_actions }
+        requires fits { AllByRecursion (PointFits game.now most_points) self.now }
+        requires point { PointFits game.now most_points (point_data point.now) }
+        requires named { AllByRecursion (λ share. share.member < length self.now) (point_data point.now).splits }
+        requires splits { SplitsHold (numbers game.now) (points_of self.now) (point_of (point_data point.now)) }
+        ensures { result ≡ point_worth (numbers game.now) (points_of self.now) (point_of (point_data point.now)) a }
+    {
+        worth_after(game, &self.points, point, a)
     }
 }

@@ -3,7 +3,7 @@ ghost use Rattle.game_model.specs.Branches.{AreRising};
 ghost use Rattle.game_model.specs.Game.{IsBelief, numbers};
 ghost use Rattle.point_set.specs.Faults.{SplitsHold, ValueFailsFirst, ValuesHold};
 ghost use Rattle.point_set.specs.Members.{IsAfter, IsMember, IsNamed, branch_of, counted, counted_after, counted_size, data_of, point_data, row_rewards};
-ghost use Rattle.point_set.specs.Points.{ValueHolds, point_of, points_of};
+ghost use Rattle.point_set.specs.Points.{ValueHolds, point_of, point_worth, points_of};
 ghost use Rattle.scaled_num.specs.Sums.{below, total};
 ghost use Rattle.std.specs.Bool.{IsTrue};
 ghost use Rattle.std.specs.List.{AllByRecursion};
@@ -37,11 +37,27 @@ fn holds(game: &Game, points: &[Point], point: &Point, a: u32) -> bool
     ensures { IsTrue result ↔ ValueHolds (numbers game.now) (points_of (data_of points.now)) (point_of (point_data point.now)) a }
 {
     law_game(game);
+    let (_, under) = game.discount();
+    let scale = game.row_total() * under;
+    let worth = worth_after(game, points, point, a);
+    worth <= point.value * (MIX_TOTAL * scale)
+}
+
+/// What one stage costs at most after an own action, times the mix total, the row total and the discount's
+/// denominator: the left side of the value rule.
+pub fn worth_after(game: &Game, points: &[Point], point: &Point, a: u32) -> i128
+    requires member { IsMember game.now points.now point.now }
+    requires splits { SplitsHold (numbers game.now) (points_of (data_of points.now)) (point_of (point_data point.now)) }
+    requires own { a < game.now.shape.own_actions }
+    ensures exact { result ≡ point_worth (numbers game.now) (points_of (data_of points.now)) (point_of (point_data point.now)) a }
+    ensures small { unsigned_abs result ≤ 2 ^ 125 }
+{
+    law_game(game);
     let (over, under) = game.discount();
     let scale = game.row_total() * under;
     let at_once = UNITS * scale * rewards(game, &point.belief, &point.mixes, a);
     let later = over * counted(game, points, &point.splits, a);
-    at_once + later <= point.value * (MIX_TOTAL * scale)
+    at_once + later
 }
 
 /// The sum over the states and the informed actions of the belief's weight times the mix's weight times the reward.

@@ -1,0 +1,15 @@
+pub mod Greatest
+pub mod FallingCorners
+pub mod Replies
+pub mod Placed
+pub mod Places
+pub mod CornerSplits
+pub mod CornerValues
+pub mod Roots
+pub mod AlwaysNodes
+pub mod CornerFits
+pub mod Sure
+pub mod SeedPoints
+pub mod AlwaysSets
+pub mod ShareLists
+pub mod Evaluations

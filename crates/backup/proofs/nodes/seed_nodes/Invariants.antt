@@ -1,0 +1,11 @@
+use Rattle.std.proofs.Common.{ℕ, ◌<◌, ◌≡◌, length}
+use Rattle.std.specs.Prelude.{slice_index_or}
+use Rattle.alpha_set.specs.Nodes.{no_node}
+use Rattle.backup.specs.Seeds.{IsSeedNode}
+use Rattle.backup.proofs.nodes.seed_nodes.Given as goal
+
+abbrev pub invariant-loop-a : goal.invariant-loop-a
+invariant-loop-a l = record {
+  count : length l.nodes ≡ l.a;
+  each : (k : ℕ) → k < l.a → IsSeedNode l.fn.game k (slice_index_or l.nodes k no_node);
+}

@@ -1,0 +1,17 @@
+use Rattle.std.proofs.Common.{◌∙◌, ◌++◌, ◌∷◌, [], List, ap, map, sym}
+use Rattle.std.specs.Prelude.{pos}
+use Rattle.std.proofs.lemmas.List.{map-append}
+use Rattle.alpha_set.specs.Members.{branch_of}
+use Rattle.alpha_set.specs.declared.nodes.Step.{Step}
+use Rattle.game_model.specs.Branches.{Branch, mix_total}
+use Rattle.backup.proofs.Places.{map-below-more}
+use Rattle.backup.proofs.nodes.steps_after.Goals as goal
+
+pub loop-o-preserved : goal.loop-o-preserved
+loop-o-preserved c =
+    let a = c.args.a in
+    let next : Step = record { a = a; o = c.loop-o.o; k = a; weight = pos 65536 } in
+    ap (λ (xs : List Step). map branch_of xs) c.in_ok-push.ensures.items
+    ∙ map-append branch_of c.loop-o.steps.items (next ∷ [])
+    ∙ ap (λ (xs : List Branch). xs ++ branch_of next ∷ []) c.loop-o.invariant
+    ∙ sym (map-below-more (λ o. record { own = a; seen = o; member = a; weight = pos mix_total }) c.loop-o.o)

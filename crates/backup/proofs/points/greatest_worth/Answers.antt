@@ -1,0 +1,21 @@
+use Rattle.std.proofs.Common.{rules, ◌≡◌, ◌+◌, ℕ, subst, sym}
+use Rattle.std.specs.Prelude.{ℤ, FitsSigned}
+use Rattle.std.specs.Int.{w128, int_max}
+use Rattle.std.proofs.lemmas.Int.{to_z-of_z}
+use Rattle.game_model.specs.Game.{numbers}
+use Rattle.point_set.specs.Members.{point_data}
+use Rattle.point_set.specs.Points.{point_of, point_worth, points_of}
+use Rattle.backup.specs.Rounds.{IsGreatestOf}
+use Rattle.backup.proofs.Greatest.{greatest-more}
+use Rattle.backup.proofs.points.greatest_worth.Goals as goal
+
+pub loop-a-preserved : goal.loop-a-preserved
+loop-a-preserved c =
+    let f : ℕ → ℤ = point_worth (numbers c.args.game.now) (points_of c.args.points.now) (point_of (point_data c.args.point.now)) in
+    let x : ℤ = c.loop-a.most in
+    let y : ℤ = c.stage_worth.result in
+    let x_fits : FitsSigned w128 x = search rules in
+    let y_fits : FitsSigned w128 y = search rules in
+    let m_fits : FitsSigned w128 c.max-most.result = search rules in
+    let is : c.max-most.result ≡ int_max x y = simp (to_z-of_z, c.loop-a.most-is) at c.max-most.ensures.value in
+    simp to_z-of_z (subst (IsGreatestOf f (c.loop-a.a + 1)) (sym is) (greatest-more f c.loop-a.a x y (subst (IsGreatestOf f c.loop-a.a) c.loop-a.most-is c.loop-a.invariant) c.stage_worth.ensures))

@@ -1,0 +1,117 @@
+use crate::seed;
+use alpha_set::NodeSet;
+use game_model::{Game, GameBuilder, GameFault, Shape};
+use point_set::{PointSet, Share};
+use std::alloc::Global;
+
+/// Matching pennies in one state, without a future.
+fn pennies(alloc: Global) -> Result<Game, GameFault> {
+    let shape = Shape {
+        states: 1,
+        own_actions: 2,
+        informed_actions: 2,
+        observations: 1,
+        row_total: 1,
+        discount: (0, 1),
+    };
+    let mut builder = GameBuilder::new(alloc, shape, &[1])?;
+    for reward in [1, -1, -1, 1] {
+        builder.step(reward)?;
+        builder.landing(0, 0, 1)?;
+    }
+    builder.finish()
+}
+
+/// Two states that stay as they are: player one is paid where its action is the number of the state.
+fn guess(alloc: Global) -> Result<Game, GameFault> {
+    let shape = Shape {
+        states: 2,
+        own_actions: 2,
+        informed_actions: 1,
+        observations: 1,
+        row_total: 1,
+        discount: (0, 1),
+    };
+    let mut builder = GameBuilder::new(alloc, shape, &[1, 1])?;
+    for s in 0..2 {
+        for a in 0..2 {
+            builder.step(if s == a { 1 } else { 0 })?;
+            builder.landing(0, s, 1)?;
+        }
+    }
+    builder.finish()
+}
+
+/// Whether a set has so many nodes, and the node of a number has this vector.
+fn has_node(nodes: &NodeSet, count: u32, number: u32, vector: &[i128]) -> bool {
+    nodes.len() == count && number < nodes.len() && nodes.node(number).vector.as_slice() == vector
+}
+
+/// Whether the point of a number has this belief, this value and these shares.
+fn has_point(
+    points: &PointSet,
+    number: u32,
+    belief: &[i128],
+    value: i128,
+    shares: &[Share],
+) -> bool {
+    if number >= points.len() {
+        return false;
+    }
+    let point = points.point(number);
+    point.belief.parts() == belief && point.value == value && point.splits.as_slice() == shares
+}
+
+/// Whether the mix of the only state at a point plays two informed actions by these weights.
+fn has_mix(points: &PointSet, number: u32, first: i128, second: i128) -> bool {
+    if number >= points.len() {
+        return false;
+    }
+    let mixes = &points.point(number).mixes;
+    mixes.states() == 1
+        && mixes.actions() == 2
+        && mixes.get(0, 0) == first
+        && mixes.get(0, 1) == second
+}
+
+/// A share after an own action.
+fn share(a: u32, k: u32) -> Share {
+    Share {
+        a,
+        o: 0,
+        k,
+        weight: 65_536,
+    }
+}
+
+#[test]
+fn seeds_of_matching_pennies_have_no_root(rt: HostRuntime) {
+    let Ok(game) = pennies(rt.alloc()) else {
+        panic!(rt; "the game is refused");
+    };
+    let Ok((nodes, points)) = seed(rt.alloc(), &game) else {
+        panic!(rt; "out of memory");
+    };
+    assert!(rt; has_node(&nodes, 2, 0, &[-65_536]));
+    assert!(rt; has_node(&nodes, 2, 1, &[-65_536]));
+    assert_eq!(rt; points.len(), 1);
+    assert!(rt; has_point(&points, 0, &[1], 65_536, &[share(0, 0), share(1, 0)]));
+    assert!(rt; has_mix(&points, 0, 65_536, 0));
+}
+
+#[test]
+fn seeds_of_guess_the_state_have_a_root(rt: HostRuntime) {
+    let Ok(game) = guess(rt.alloc()) else {
+        panic!(rt; "the game is refused");
+    };
+    let Ok((nodes, points)) = seed(rt.alloc(), &game) else {
+        panic!(rt; "out of memory");
+    };
+    assert!(rt; has_node(&nodes, 2, 0, &[65_536, 0]));
+    assert!(rt; has_node(&nodes, 2, 1, &[0, 65_536]));
+    assert_eq!(rt; points.len(), 3);
+    assert!(rt; has_point(&points, 0, &[1, 0], 65_536, &[share(0, 0), share(1, 0)]));
+    assert!(rt; has_point(&points, 1, &[0, 1], 65_536, &[share(0, 1), share(1, 1)]));
+    let all = [share(0, 0), share(0, 1), share(1, 0), share(1, 1)];
+    assert!(rt; has_point(&points, 2, &[1, 1], 65_536, &all));
+}
