@@ -4,3 +4,4 @@ pub mod Rows
 pub mod Wide
 pub mod Filling
 pub mod Rules
+pub mod Products

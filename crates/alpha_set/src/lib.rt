@@ -7,6 +7,7 @@ mod stands;
 mod tables;
 #[cfg(test)]
 mod tests;
+mod worth;
 
 pub use nodes::{Node, Step};
 pub use sets::{MOST_NODES, NodeSet, PushFault};

@@ -1,12 +1,14 @@
 ghost use Rattle.alpha_set.specs.Faults.{NodeFailsFirst};
 ghost use Rattle.alpha_set.specs.Members.{most_nodes, node_data};
 ghost use Rattle.alpha_set.specs.Nodes.{NodeFits, NodeStands, no_node, nodes_of};
+ghost use Rattle.alpha_set.specs.Worth.{AreWeighed, IsWorth};
 ghost use Rattle.game_model.specs.Game.{numbers};
 ghost use Rattle.std.specs.List.{AllByRecursion};
 ghost use Rattle.std.specs.Prelude.{IfOk, IfSome, IsErrOf, IsNone, OnErr, OnOk, [], length, slice_index_or, ◌++◌, ◌<◌, ◌↔◌, ◌∷◌, ◌≡◌, ◌≤◌};
 
 use crate::nodes::Node;
 use crate::stands::first_fault;
+use crate::worth::greatest;
 use game_model::Game;
 use std::alloc::Global;
 use std::marker::Model;
@@ -87,6 +89,17 @@ impl NodeSet {
             return Err(PushFault::OutOfMemory);
         }
         Ok(number)
+    }
+
+    /// What the nodes are worth at a mass: the greatest product of a node's vector with the mass, and the first node
+    /// that has it. The nodes fit one game, and the mass is over its states, with a total of at most 2^36 times the
+    /// row total. It takes no memory.
+    pub fn worth(&self, mass: &[i128]) -> (i128, u32)
+        requires some { 1 ≤ length self.now }
+        requires weighed { AreWeighed self.now mass.now }
+        ensures { IsWorth self.now mass.now result.0 result.1 }
+    {
+        greatest(&self.nodes, mass)
     }
 
     /// Whether a node stands: None where the node rule holds at every state and informed action. Else the first of
