@@ -1,25 +1,23 @@
 -- The states that have mass, step by step, and how large their product with a vector is.
-use Rattle.std.proofs.Common.{◌≡◌, ℕ, zero, suc, ◌+◌, ◌*◌, ◌^◌, ◌<◌, ◌≤◌, ◌⊎◌, inl, inr, List, [], ◌∷◌, ◌++◌, length, get_or, map, of_z, set, take, refl, ap, arith, sym, subst, ◌∙◌}
+use Rattle.std.proofs.Common.{◌≡◌, ℕ, ◌+◌, ◌*◌, ◌^◌, ◌<◌, ◌≤◌, ◌⊎◌, inl, inr, List, [], ◌∷◌, ◌++◌, length, get_or, of_z, set, take, refl, ap, arith, sym, subst, ◌∙◌}
 use Rattle.std.specs.Prelude.{ℤ, pos, negsuc, neg_ℤ, ◌+ℤ◌, ◌*ℤ◌, ◌≤ℤ◌, ◌<ℤ◌, unsigned_abs, FitsSigned, sum_by}
 use Rattle.std.specs.List.{AllByRecursion}
 use Rattle.std.specs.Int.{w128}
 use Rattle.std.proofs.Math.Nat.{mul-le-mul_left, mul-le-mul_right}
 use Rattle.std.proofs.lemmas.Int.{ints, fits_signed_from_abs, unsigned_abs-mul}
-use Rattle.std.proofs.lemmas.Nat.{mul-le}
 use Rattle.std.proofs.lemmas.List.{get_or-map, length-append, length-map, take_more_set}
-use Rattle.std.proofs.lemmas.List.Sums.{get_or-le-sum_by, sum_by-cons, sum_by_more, sum_by_more_le}
-use Rattle.std.proofs.lemmas.Bool.Decides.{eqb_tells}
+use Rattle.std.proofs.lemmas.List.Sums.{sum_by-cons, sum_by_more, sum_by_more_le}
 use Rattle.scaled_num.specs.Share.{at}
-use Rattle.scaled_num.specs.Sums.{below, sum_of, total}
+use Rattle.scaled_num.specs.Sums.{sum_of, total}
 use Rattle.scaled_num.proofs.Products.{sums}
 use Rattle.scaled_num.proofs.Sums.{each-append, each-at, total-append, total-places, total-same, each}
-use Rattle.game_model.specs.Game.{GameData, IsGame, IsMass, IsWithin, span}
+use Rattle.game_model.specs.Game.{GameData, IsWithin, span}
 use Rattle.game_model.proofs.Pay.{each-from}
 use Rattle.game_model.proofs.Sizes.{total-more}
 use Rattle.alpha_set.specs.Members.{data_of, most_nodes, node_data}
 use Rattle.alpha_set.specs.Nodes.{NodeData, NodeFits, no_node}
-use Rattle.alpha_set.specs.Products.{CanMultiply, IsFirstBest, IsGathered, node_product_of, product_of}
-use Rattle.alpha_set.specs.Worth.{AreWeighed, IsWorth, node_worth_at, worth_at}
+use Rattle.alpha_set.specs.Products.{CanMultiply, IsFirstBest, IsGathered, node_product_of}
+use Rattle.alpha_set.specs.Worth.{AreWeighed, IsWorth}
 use Rattle.alpha_set.specs.declared.nodes.Node.{Node as NodeParts}
 use Rattle.alpha_set.specs.declared.worth.Portion.{Portion}
 use Rattle.alpha_set.proofs.Totals.{abs-add, total-below-more}
@@ -32,9 +30,6 @@ abbrev pub none : Portion
 none = portion 0 (pos 0)
 
 -- ---- gathering
-pub gathered-none : (mass : List ℤ) → IsGathered mass 0 []
-gathered-none mass = record { few = omega arith; inside = tt; positive = tt; same = λ f. refl }
-
 later : (i : ℕ) (portions : List Portion) → AllByRecursion (λ (p : Portion). p.state < i) portions → AllByRecursion (λ (p : Portion). p.state < i + 1) portions
 later i portions h = each-from (λ (p : Portion). p.state < i) (λ (p : Portion). p.state < i + 1) portions (λ p l. omega arith) h
 
@@ -74,13 +69,9 @@ pub record SumSoFar (portions : List Portion) (vector : List ℤ) (i : ℕ) (sum
   pub bounded : (most : ℕ) → AllByRecursion (λ x. unsigned_abs x ≤ most) vector → unsigned_abs sum ≤ sum_by size (take i portions) * most
 
 pub record NextPortion (portions : List Portion) (vector : List ℤ) (i : ℕ) (sum : ℤ) : Type 0 where
-  pub inside : (get_or portions i none).state < length vector
   pub product_fits : FitsSigned w128 (term vector (get_or portions i none))
   pub sum_fits : FitsSigned w128 (sum +ℤ term vector (get_or portions i none))
   pub so_far : SumSoFar portions vector (i + 1) (sum +ℤ term vector (get_or portions i none))
-
-pub sum-none : (portions : List Portion) (vector : List ℤ) → SumSoFar portions vector 0 (pos 0)
-sum-none portions vector = record { is = refl; bounded = λ most h. omega arith }
 
 pub next-portion : (portions : List Portion) (vector : List ℤ) (i : ℕ) (sum : ℤ) → CanMultiply portions vector → i < length portions → SumSoFar portions vector i sum → NextPortion portions vector i sum
 next-portion portions vector i sum can l so_far =
@@ -93,7 +84,6 @@ next-portion portions vector i sum can l so_far =
     let highest : (sum_by size (take i portions) + size p) * can.most ≤ sum_by size portions * can.most = mul-le-mul_right can.most more in
     let upto = λ (most : ℕ) (h : AllByRecursion (λ x. unsigned_abs x ≤ most) vector). bound vector portions i sum most inside l h (so_far.bounded most h) in
     record {
-      inside = inside;
       product_fits = fits_signed_from_abs w128 (term vector p) (omega (arith, product, highest));
       sum_fits = fits_signed_from_abs w128 (sum +ℤ term vector p) (omega (arith, upto can.most can.entries, highest));
       so_far = record {
@@ -125,14 +115,6 @@ gathered-put mass i count places low l h =
     subst (IsGathered mass (i + 1)) (sym (take_more_set places count (portion i (at mass i)) l)) (gathered-more mass i (take count places) low h)
 
 -- ---- the first of the greatest, with one more number
-pub best-only : (f : ℕ → ℤ) → IsFirstBest f 1 (f 0) 0
-best-only f = record {
-  inside = omega arith;
-  has = refl;
-  greatest = λ i l. let e : i ≡ 0 = omega arith in subst (λ (k : ℕ). f k ≤ℤ f 0) (sym e) (omega (arith, ints));
-  first = λ i l. absurd (omega arith);
-}
-
 pub best-more : (f : ℕ → ℤ) (count number : ℕ) (value new : ℤ) → new ≡ f count → value <ℤ new → IsFirstBest f count value number → IsFirstBest f (count + 1) new count
 best-more f count number value new is more h = record {
   inside = omega arith;

@@ -2,7 +2,7 @@ ghost use Rattle.alpha_set.specs.Members.{most_nodes, node_data};
 ghost use Rattle.alpha_set.specs.Nodes.{NodeFits};
 ghost use Rattle.game_model.specs.Game.{IsMass, IsWithin, span};
 ghost use Rattle.std.specs.List.{AllByRecursion};
-ghost use Rattle.std.specs.Prelude.{IfOk, neg_ℤ, pos, ◌<◌, ◌≡◌};
+ghost use Rattle.std.specs.Prelude.{IfOk, length, neg_ℤ, pos, ◌<◌, ◌≡◌};
 
 use crate::{Node, NodeSet, PushFault, Step};
 use game_model::{Game, GameBuilder, GameFault, Shape, law_game};
@@ -26,17 +26,15 @@ fn three_or_four(alloc: Global) -> Result<Game, GameFault> {
     builder.finish()
 }
 
-/// The node of this entry that goes on with node 0.
-fn node_with(alloc: Global, game: &Game, entry: i128) -> Result<Node, AllocError>
-    requires states { game.now.shape.states ≡ 1 }
+/// The node of this vector that goes on with node 0.
+fn node_with(alloc: Global, game: &Game, vector: Vec<i128>) -> Result<Node, AllocError>
     requires own { game.now.shape.own_actions ≡ 1 }
     requires seen { game.now.shape.observations ≡ 1 }
-    requires span { span game.now ≡ 524288 }
-    requires entry { IsWithin (neg_ℤ (pos 524288)) (pos 524288) entry }
+    requires long { length vector.items ≡ game.now.shape.states }
+    requires entries { AllByRecursion (IsWithin (neg_ℤ (pos (span game.now))) (pos (span game.now))) vector.items }
     ensures fits { IfOk result (λ n. NodeFits game.now most_nodes (node_data n)) }
     ensures named { IfOk result (λ n. AllByRecursion (λ step. step.member < 1) (node_data n).next) }
 {
-    let vector = vec![in alloc; entry]?;
     let mix = vec![in alloc; 65_536]?;
     let step = Step {
         a: 0,
@@ -48,6 +46,19 @@ fn node_with(alloc: Global, game: &Game, entry: i128) -> Result<Node, AllocError
     Ok(Node { vector, mix, next })
 }
 
+/// The node of one entry that goes on with node 0.
+fn node_of_one(alloc: Global, game: &Game, entry: i128) -> Result<Node, AllocError>
+    requires states { game.now.shape.states ≡ 1 }
+    requires own { game.now.shape.own_actions ≡ 1 }
+    requires seen { game.now.shape.observations ≡ 1 }
+    requires span { span game.now ≡ 524288 }
+    requires entry { IsWithin (neg_ℤ (pos 524288)) (pos 524288) entry }
+    ensures fits { IfOk result (λ n. NodeFits game.now most_nodes (node_data n)) }
+    ensures named { IfOk result (λ n. AllByRecursion (λ step. step.member < 1) (node_data n).next) }
+{
+    node_with(alloc, game, vec![in alloc; entry]?)
+}
+
 /// The fault of a set of that node alone.
 fn fault_of(alloc: Global, game: &Game, entry: i128) -> Result<Option<(u32, u32)>, AllocError>
     requires states { game.now.shape.states ≡ 1 }
@@ -56,7 +67,7 @@ fn fault_of(alloc: Global, game: &Game, entry: i128) -> Result<Option<(u32, u32)
     requires span { span game.now ≡ 524288 }
     requires entry { IsWithin (neg_ℤ (pos 524288)) (pos 524288) entry }
 {
-    let node = node_with(alloc, game, entry)?;
+    let node = node_of_one(alloc, game, entry)?;
     let mut set = NodeSet::new(alloc, game);
     let Ok(_) = set.push(node) else {
         return Err(AllocError);
@@ -90,12 +101,12 @@ fn a_push_answers_numbers_up_to_1023_and_then_full(rt: HostRuntime) {
     assert_eq!(rt; game.span(), 524_288);
     let mut set = NodeSet::new(rt.alloc(), &game);
     for number in 0..1024 {
-        let Ok(node) = node_with(rt.alloc(), &game, i128::from(number)) else {
+        let Ok(node) = node_of_one(rt.alloc(), &game, i128::from(number)) else {
             panic!(rt; "out of memory");
         };
         assert!(rt; matches!(set.push(node), Ok(i) if i == number));
     }
-    let Ok(node) = node_with(rt.alloc(), &game, 0) else {
+    let Ok(node) = node_of_one(rt.alloc(), &game, 0) else {
         panic!(rt; "out of memory");
     };
     assert!(rt; matches!(set.push(node), Err(PushFault::Full)));
@@ -121,28 +132,6 @@ fn one_in_two_states(alloc: Global) -> Result<Game, GameFault> {
     builder.finish()
 }
 
-/// The node of these entries that goes on with node 0.
-fn node_of_two(alloc: Global, game: &Game, first: i128, second: i128) -> Result<Node, AllocError>
-    requires states { game.now.shape.states ≡ 2 }
-    requires own { game.now.shape.own_actions ≡ 1 }
-    requires seen { game.now.shape.observations ≡ 1 }
-    requires span { span game.now ≡ 65536 }
-    requires first { IsWithin (neg_ℤ (pos 65536)) (pos 65536) first }
-    requires second { IsWithin (neg_ℤ (pos 65536)) (pos 65536) second }
-    ensures { IfOk result (λ n. NodeFits game.now most_nodes (node_data n)) }
-{
-    let vector = vec![in alloc; first, second]?;
-    let mix = vec![in alloc; 65_536]?;
-    let step = Step {
-        a: 0,
-        o: 0,
-        k: 0,
-        weight: 65_536,
-    };
-    let next = vec![in alloc; step]?;
-    Ok(Node { vector, mix, next })
-}
-
 /// What two nodes are worth at a mass, where each is worth a unit in one state and nothing in the other.
 fn worth_of_two(alloc: Global, game: &Game, mass: &[i128]) -> Result<(i128, u32), AllocError>
     requires states { game.now.shape.states ≡ 2 }
@@ -152,8 +141,8 @@ fn worth_of_two(alloc: Global, game: &Game, mass: &[i128]) -> Result<(i128, u32)
     requires mass { IsMass game.now mass.now }
 {
     law_game(game);
-    let first = node_of_two(alloc, game, 65_536, 0)?;
-    let second = node_of_two(alloc, game, 0, 65_536)?;
+    let first = node_with(alloc, game, vec![in alloc; 65_536, 0]?)?;
+    let second = node_with(alloc, game, vec![in alloc; 0, 65_536]?)?;
     let mut set = NodeSet::new(alloc, game);
     let Ok(_) = set.push(first) else {
         return Err(AllocError);

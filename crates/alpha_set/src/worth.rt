@@ -9,7 +9,7 @@ use game_model::MOST_STATES;
 
 /// A state that has mass, and how much.
 #[derive(Clone, Copy)]
-pub struct Portion {
+struct Portion {
     state: usize,
     mass: i128,
 }

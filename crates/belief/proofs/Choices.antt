@@ -1,12 +1,11 @@
 -- Mixes that surely play one action in each state.
-use Rattle.std.proofs.Common.{◌≡◌, ℕ, zero, suc, ◌+◌, ◌-◌, ◌*◌, ◌<◌, ◌≤◌, Bool, true, false, cond, ◌==◌, List, [], ◌∷◌, ◌++◌, length, get_or, set, take, replicate, refl, ap, arith, sym, subst, ◌∙◌, inl, inr, append-nil, append_assoc}
+use Rattle.std.proofs.Common.{◌≡◌, ℕ, zero, suc, ◌+◌, ◌-◌, ◌*◌, ◌<◌, Bool, true, false, cond, ◌==◌, List, [], ◌∷◌, ◌++◌, length, get_or, set, take, replicate, refl, ap, arith, sym, subst, ◌∙◌, inl, inr, append-nil, append_assoc}
 use Rattle.std.specs.Prelude.{ℤ, pos, ◌*ℤ◌, flat_map}
 use Rattle.std.specs.List.{AllByRecursion}
 use Rattle.std.proofs.lemmas.Int.{ints}
 use Rattle.std.proofs.lemmas.Bool.Decides.{eqb_tells}
 use Rattle.std.proofs.lemmas.List.{get_or_append_left, get_or-append_right, get_or-replicate, get_or-set_other, get_or-set_same, length-append, length-replicate, length-set, length-take-le, replicate-append-replicate, set-append_left, set-append_right, take_at, take_more}
 use Rattle.std.proofs.lemmas.Grind.{flat_map-append}
-use Rattle.std.proofs.Math.Nat.{mul-le-mul_right}
 use Rattle.scaled_num.proofs.Sums.{each, each-at, each-flat_map, total-below, total-single}
 use Rattle.game_model.specs.Branches.{mix_total}
 use Rattle.game_model.specs.Game.{GameData, IsGame, IsWithin}
@@ -45,10 +44,6 @@ choose-next actions choice i weights l inside before =
   where
     rows : (n i k : ℕ) → i < n → (n - i) * k ≡ k + (n - (i + 1)) * k
     rows n i k l = let e : n - i ≡ suc (n - (i + 1)) = omega arith in rw e (omega arith)
-
--- the place of a state and an action among them
-pub inside : (n i k x : ℕ) → i < n → x < k → i * k + x < n * k
-inside n i k x l m = let up : suc i * k ≤ n * k = mul-le-mul_right k l in omega arith
 
 -- the weight of an action in sure weights
 sure-at : (actions chosen c : ℕ) → c < actions → get_or (sure actions chosen) c (pos 0) ≡ cond (c == chosen) (pos mix_total) (pos 0)

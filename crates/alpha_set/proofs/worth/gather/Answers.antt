@@ -1,8 +1,7 @@
-use Rattle.std.proofs.Common.{◌≡◌, ◌∙◌, ◌<◌, ◌≤◌, ◌+◌, List, ap, arith, get_or, length, rules, set, subst, sym, take, ℕ}
+use Rattle.std.proofs.Common.{◌≡◌, ◌<◌, ◌+◌, arith, get_or, length, rules, take}
 use Rattle.std.specs.Prelude.{pos, FitsSigned}
 use Rattle.std.specs.Int.{w128}
 use Rattle.std.proofs.lemmas.Int.{to_z-of_z}
-use Rattle.alpha_set.specs.Products.{IsGathered}
 use Rattle.alpha_set.proofs.Products.{gathered-put, gathered-skip, mass-low, zero-from}
 use Rattle.alpha_set.proofs.worth.gather.Goals.{then-weight-ne0, else-weight-ne0}
 use Rattle.alpha_set.proofs.worth.gather.Goals as goal

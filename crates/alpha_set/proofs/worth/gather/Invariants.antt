@@ -1,4 +1,4 @@
-use Rattle.std.proofs.Common.{◌≤◌, length, take}
+use Rattle.std.proofs.Common.{◌≤◌, take}
 use Rattle.alpha_set.specs.Products.{IsGathered}
 use Rattle.alpha_set.proofs.worth.gather.Given as goal
 
