@@ -8,8 +8,8 @@ ghost use Rattle.cert_text.specs.Entries.{node_said, vector_said, mix_said, bran
 use crate::fault::{CertKind, LineFault};
 use crate::forms::numbers_after;
 use crate::guards::{
-    at_least, belief_total, below_limit, each_within, fits_lack, is_due,
-    later_branch, limited, member_below, none_lacks, sums_to_mix,
+    at_least, belief_total, below_limit, each_within, fits_lack, is_due, later_branch, limited,
+    member_below, none_lacks, sums_to_mix,
 };
 use crate::place::{Branch, Entry, Limits, Place};
 use game_model::{MIX_TOTAL, MOST_BELIEF};

@@ -11,8 +11,7 @@ ghost use Rattle.game_text.specs.Limits.{IsDiscount};
 
 use crate::fault::{Kind, LineFault, TextFault, numbered};
 use crate::forms::{
-    discount_within, limited, numbers_after, total_within, version, weights_within,
-    within,
+    discount_within, limited, numbers_after, total_within, version, weights_within, within,
 };
 use game_model::{MOST_ACTIONS, MOST_OBSERVATIONS, MOST_ROW_TOTAL, MOST_STATES, Shape};
 use std::alloc::Global;
