@@ -71,7 +71,8 @@ fn reply(game: &Game, s: u32, old: &[i128]) -> (i128, u32)
     let mut chosen = 0;
     for c in 1..game.informed_actions() {
         let value = greatest_ceil(game, s, c, old);
-        if value < least {
+        let better = value < least;
+        if better {
             least = value;
             chosen = c;
         }

@@ -75,7 +75,8 @@ fn add_row(masses: &[i128], a: u32, o: u32, shares: &mut Vec<Share>) -> Result<(
     ensures { OnOk result (map branch_of shares.new.items ≡ map branch_of shares.old.items ++ filter has_weight (row_shares (at masses.now) a o (length masses.now))) }
 {
     for (t, weight) in masses.iter().enumerate() {
-        if *weight != 0 {
+        let weighs = *weight != 0;
+        if weighs {
             shares.push(Share {
                 a,
                 o,

@@ -1,12 +1,13 @@
-use Rattle.std.proofs.Common.{rules, arith, ◌≡◌}
+use Rattle.std.proofs.Common.{true, false, rules, arith, ◌≡◌}
 use Rattle.std.specs.Prelude.{ℤ, FitsSigned}
 use Rattle.std.specs.Int.{w128, cast_signed}
+use Rattle.std.specs.Int.Signed.{lt_z}
 use Rattle.std.proofs.lemmas.Int.{to_z-of_z}
 use Rattle.scaled_num.specs.Share.{at}
 use Rattle.game_model.specs.Game.{GameData, numbers, span}
 use Rattle.backup.proofs.Replies.{kept, reply-all, reply-one, taken}
 use Rattle.backup.proofs.corners.reply.Goals as goal
-use Rattle.backup.proofs.corners.reply.Goals.{then-value-least, else-value-least}
+use Rattle.backup.proofs.corners.reply.Goals.{then-better, else-better}
 
 pub loop-c-init : goal.loop-c-init
 loop-c-init c =
@@ -21,16 +22,20 @@ loop-c-preserved c =
     let g : GameData = c.args.game.now in
     let x : ℤ = cast_signed w128 c.loop-c.least-bits in
     let y : ℤ = c.greatest_ceil-value.result in
-    let z : ℤ = cast_signed w128 c.if-value-least.least-bits in
+    let z : ℤ = cast_signed w128 c.if-better.least-bits in
     let fits : FitsSigned w128 y = search rules in
-    elim c.if-value-least.branch [
-      | then-value-least w ↦
-          let next = taken (numbers g) (at c.args.old.now) c.args.s c.loop-c.c c.loop-c.chosen (span g) x y z c.if-value-least.chosen c.loop-c.invariant.reply c.greatest_ceil-value.ensures.ceil
-          c.greatest_ceil-value.ensures.bounded (simp to_z-of_z at w.if-value-least.true) (simp to_z-of_z at w.least-is) w.chosen-is in
+    elim c.if-better.branch [
+      | then-better w ↦
+          let is_less = simp to_z-of_z at w.if-better.true in
+          let test : lt_z y x ≡ true = cc is_less in
+          let next = taken (numbers g) (at c.args.old.now) c.args.s c.loop-c.c c.loop-c.chosen (span g) x y z c.if-better.chosen c.loop-c.invariant.reply c.greatest_ceil-value.ensures.ceil
+          c.greatest_ceil-value.ensures.bounded test (simp to_z-of_z at w.least-is) w.chosen-is in
           record { reply = next.reply; bounded = next.bounded }
-      | else-value-least w ↦
-          let next = kept (numbers g) (at c.args.old.now) c.args.s c.loop-c.c c.loop-c.chosen (span g) x y z c.if-value-least.chosen c.loop-c.invariant.reply c.loop-c.invariant.bounded
-          c.greatest_ceil-value.ensures.ceil (simp to_z-of_z at w.if-value-least.false) w.least-is w.chosen-is in
+      | else-better w ↦
+          let is_not = simp to_z-of_z at w.if-better.false in
+          let test : lt_z y x ≡ false = cc is_not in
+          let next = kept (numbers g) (at c.args.old.now) c.args.s c.loop-c.c c.loop-c.chosen (span g) x y z c.if-better.chosen c.loop-c.invariant.reply c.loop-c.invariant.bounded
+          c.greatest_ceil-value.ensures.ceil test w.least-is w.chosen-is in
           record { reply = next.reply; bounded = next.bounded }
     ]
 

@@ -1,7 +1,8 @@
-use Rattle.std.proofs.Common.{rules, ◌*◌, ℕ, subst}
+use Rattle.std.proofs.Common.{rules, arith, ◌*◌, ℕ, subst}
 use Rattle.std.specs.Prelude.{ℤ, pos, ◌*ℤ◌, ◌+ℤ◌, ◌≤ℤ◌, ◌<ℤ◌, unsigned_abs, FitsSigned}
 use Rattle.std.specs.Int.{w128}
 use Rattle.std.proofs.lemmas.Int.{to_z-of_z}
+use Rattle.scaled_num.proofs.Products.{sums}
 use Rattle.game_model.specs.Branches.{mix_total}
 use Rattle.game_model.specs.Game.{GameData, numbers}
 use Rattle.point_set.specs.Members.{point_data}
@@ -49,8 +50,10 @@ returns c =
     let w_fits : FitsSigned w128 w = search rules in
     let b : ℤ = pos 65536 *ℤ (g.shape.row_total *ℤ g.shape.discount.1) in
     let n : ℕ = mix_total * unsigned_abs g.shape.row_total * unsigned_abs g.shape.discount.1 in
-    let high : w ≤ℤ (q *ℤ b) = simp (c.row_total.ensures, c.discount-under.ensures, to_z-of_z) at c.ceil_div.ensures.high in
-    let low : (q *ℤ b) <ℤ (w +ℤ b) = simp (c.row_total.ensures, c.discount-under.ensures, to_z-of_z) at c.ceil_div.ensures.low in
+    let upper = simp (c.row_total.ensures, c.discount-under.ensures, to_z-of_z) at c.ceil_div.ensures.high in
+    let lower = simp (c.row_total.ensures, c.discount-under.ensures, to_z-of_z) at c.ceil_div.ensures.low in
+    let high : w ≤ℤ (q *ℤ b) = omega (arith, sums, upper) in
+    let low : (q *ℤ b) <ℤ (w +ℤ b) = omega (arith, sums, lower) in
     let is = scale-is g c.law_game.ensures.accepted in
     simp to_z-of_z (evaluation-is (numbers g) (points_of c.args.points.now) (point_of (point_data c.args.point.now)) w q c.greatest_worth-worth.ensures
     (ceil-is w q n (subst (λ (z : ℤ). w ≤ℤ (q *ℤ z)) is high) (subst (λ (z : ℤ). (q *ℤ z) <ℤ (w +ℤ z)) is low)))

@@ -17,5 +17,6 @@ loop-a-preserved c =
     let x_fits : FitsSigned w128 x = search rules in
     let y_fits : FitsSigned w128 y = search rules in
     let m_fits : FitsSigned w128 c.max-most.result = search rules in
-    let is : c.max-most.result ≡ int_max x y = simp (to_z-of_z, c.loop-a.most-is) at c.max-most.ensures.value in
+    let value = simp (to_z-of_z, c.loop-a.most-is) at c.max-most.ensures.value in
+    let is : c.max-most.result ≡ int_max x y = cc value in
     simp to_z-of_z (subst (IsGreatestOf f (c.loop-a.a + 1)) (sym is) (greatest-more f c.loop-a.a x y (subst (IsGreatestOf f c.loop-a.a) c.loop-a.most-is c.loop-a.invariant) c.stage_worth.ensures))
