@@ -9,7 +9,7 @@ use Rattle.std.proofs.lemmas.List.Sums.{sum_by-cons}
 use Rattle.scaled_num.specs.Share.{at}
 use Rattle.scaled_num.specs.Sums.{sum_of, total}
 use Rattle.scaled_num.proofs.Products.{add-mulℤ, sums}
-use Rattle.scaled_num.proofs.Floors.{NoneNegative, at_le_sum, product_le, product_none_negative}
+use Rattle.scaled_num.proofs.Floors.{at_le_sum, product_none_negative}
 use Rattle.scaled_num.proofs.Sums.{each-at}
 use Rattle.game_model.proofs.Front.{each-by-place}
 use Rattle.game_model.proofs.Pay.{each-from}

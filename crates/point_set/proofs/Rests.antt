@@ -1,6 +1,6 @@
 -- What remains of a mass goes to the current corners.
-use Rattle.std.proofs.Common.{◌≡◌, ℕ, zero, suc, ◌+◌, ◌*◌, ◌^◌, ◌<◌, ◌≤◌, Bool, true, false, not, cond, ◌==◌, ltb, List, [], ◌∷◌, length, get_or, set, replicate, filter, refl, ap, arith, add-one, sym, subst, ◌∙◌, inl, inr, ◌⊎◌}
-use Rattle.std.specs.Prelude.{ℤ, pos, negsuc, ◌+ℤ◌, ◌*ℤ◌, ◌≤ℤ◌, ◌<ℤ◌, count_by, sum_by, FitsSigned}
+use Rattle.std.proofs.Common.{◌≡◌, ℕ, zero, suc, ◌+◌, ◌*◌, ◌^◌, ◌<◌, ◌≤◌, Bool, true, false, not, cond, ◌==◌, ltb, List, [], ◌∷◌, length, get_or, replicate, filter, refl, ap, arith, add-one, sym, subst, ◌∙◌, inl, inr, ◌⊎◌}
+use Rattle.std.specs.Prelude.{ℤ, pos, negsuc, ◌+ℤ◌, ◌*ℤ◌, ◌≤ℤ◌, count_by, FitsSigned}
 use Rattle.std.specs.Int.{w128}
 use Rattle.scaled_num.proofs.Floors.{small_fits}
 use Rattle.std.specs.Int.Signed.{lt_z}
@@ -94,14 +94,14 @@ rests-others corners states rest items (suc n) l =
     ))
     (λ none. rests-others corners states rest items n (omega arith))
 
-pub rests-room : (corners : ℕ → ℕ) (states : ℕ) (rest : List ℤ) (items : List (ℕ × ℤ)) (n : ℕ) → n < states → states ≤ 16 → AreRisingPairs items → others corners states items ≤ 8 →
-    length (inserted (corners n) (at rest n) (with_rests corners rest items n)) ≤ 24
-rests-room corners states rest items n l few rising h =
-    few-items corners states (inserted (corners n) (at rest n) (with_rests corners rest items n))
-    (rising-inserted (corners n) (at rest n) (with_rests corners rest items n) (rests-rise corners rest items n rising))
+pub rests-room : (corners : ℕ → ℕ) (states : ℕ) (rest : List ℤ) (items : List (ℕ × ℤ)) (n : ℕ) (w : ℤ) → n < states → states ≤ 16 → AreRisingPairs items → others corners states items ≤ 8 →
+    length (inserted (corners n) w (with_rests corners rest items n)) ≤ 24
+rests-room corners states rest items n w l few rising h =
+    few-items corners states (inserted (corners n) w (with_rests corners rest items n))
+    (rising-inserted (corners n) w (with_rests corners rest items n) (rests-rise corners rest items n rising))
     (omega (
       arith,
-      others-inserted corners states (corners n) (at rest n) (with_rests corners rest items n),
+      others-inserted corners states (corners n) w (with_rests corners rest items n),
       ap (λ (b : Bool). cond {A = ℕ} (not b) 1 0) (corner-is corners states n l),
       rests-others corners states rest items n (omega arith),
     )) few

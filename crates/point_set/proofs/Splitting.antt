@@ -1,5 +1,5 @@
 -- The split of a mass, put together.
-use Rattle.std.proofs.Common.{◌≡◌, ℕ, ◌+◌, ◌^◌, ◌<◌, ◌≤◌, cond, ◌==◌, List, length, get_or, map, ap, arith, sym, subst, ◌∙◌}
+use Rattle.std.proofs.Common.{◌≡◌, ℕ, ◌^◌, ◌<◌, ◌≤◌, cond, ◌==◌, List, length, get_or, map, ap, arith, sym, subst, ◌∙◌}
 use Rattle.std.specs.Prelude.{ℤ, pos, ◌+ℤ◌, ◌*ℤ◌, ◌≤ℤ◌}
 use Rattle.std.specs.List.{AllByRecursion}
 use Rattle.std.proofs.lemmas.Int.{ints}
@@ -10,7 +10,7 @@ use Rattle.scaled_num.proofs.Products.{sums}
 use Rattle.scaled_num.proofs.Sums.{each-at}
 use Rattle.game_model.proofs.Front.{each-by-place}
 use Rattle.game_model.proofs.Pay.{each-from}
-use Rattle.game_model.specs.Game.{GameData, IsBelief, IsWithin}
+use Rattle.game_model.specs.Game.{IsBelief, IsWithin}
 use Rattle.point_set.specs.Corners.{point_at}
 use Rattle.point_set.specs.Members.{most_points}
 use Rattle.point_set.specs.Points.{PointData, PointFits}
@@ -19,7 +19,7 @@ use Rattle.point_set.specs.Split.{IsSplit, IsWanted, MakesUp}
 use Rattle.point_set.specs.Takes.{AreBeliefs, AreItems, AreTaken, others, with_rests}
 use Rattle.point_set.proofs.Counted.{few-items}
 use Rattle.point_set.proofs.Items.{by-recursion, items-most}
-use Rattle.point_set.proofs.Rests.{left_from, rests-end, rests-made, rests-rise, rests-weigh, same-corners, same-others}
+use Rattle.point_set.proofs.Rests.{left_from, rests-end, rests-made, rests-weigh, same-corners, same-others}
 
 -- what is measured
 pub measured-beliefs : (points : List PointData) (mass : List ℤ) → AreMeasured points mass → AreBeliefs (length mass) points

@@ -11,7 +11,7 @@ use Rattle.scaled_num.proofs.Floors.{at_le_sum}
 use Rattle.scaled_num.proofs.Products.{sums}
 use Rattle.scaled_num.proofs.Sums.{each-at}
 use Rattle.game_model.proofs.Front.{each-by-place}
-use Rattle.game_model.specs.Game.{IsBelief, IsWithin}
+use Rattle.game_model.specs.Game.{IsBelief}
 use Rattle.point_set.specs.Corners.{point_at}
 use Rattle.point_set.specs.Points.{PointData}
 use Rattle.point_set.specs.Split.{IsWanted, TakesMost, is_corner, less_times, weight_of}

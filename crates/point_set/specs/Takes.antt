@@ -1,13 +1,13 @@
 -- A split on its way: items with one more weight, and what remains of the mass.
-use Rattle.std.specs.Prelude.{ℕ, zero, suc, ℤ, pos, Bool, List, [], ◌∷◌, cond, filter, length, map, not, ◌≡◌, ◌<◌, ◌≤◌, ◌^◌, ◌==◌, ◌+ℤ◌, ◌*ℤ◌, ◌≤ℤ◌, ltb, slice_index_or}
+use Rattle.std.specs.Prelude.{ℕ, zero, suc, ℤ, pos, List, [], ◌∷◌, cond, filter, length, map, not, ◌≡◌, ◌<◌, ◌≤◌, ◌^◌, ◌==◌, ◌+ℤ◌, ◌*ℤ◌, ◌≤ℤ◌, ltb, slice_index_or}
 use Rattle.std.specs.Int.Signed.{lt_z}
 use Rattle.std.specs.List.{AllByRecursion}
 use Rattle.scaled_num.specs.Share.{at}
-use Rattle.scaled_num.specs.Sums.{below, sum_of, total}
-use Rattle.game_model.specs.Game.{GameData, IsBelief, IsWithin}
+use Rattle.scaled_num.specs.Sums.{total}
+use Rattle.game_model.specs.Game.{IsBelief, IsWithin}
 use Rattle.point_set.specs.Corners.{point_at}
 use Rattle.point_set.specs.Points.{PointData}
-use Rattle.point_set.specs.Split.{AreRisingPairs, AreTakes, Take, is_corner, most_items, weight_of}
+use Rattle.point_set.specs.Split.{AreRisingPairs, AreTakes, Take, is_corner, weight_of}
 
 -- items with so much more weight under a number: added to the weight there, or as a new item in order
 abbrev pub inserted : ℕ → ℤ → List (ℕ × ℤ) → List (ℕ × ℤ)
@@ -29,7 +29,7 @@ pub record AreItems (points : List PointData) (mass : List ℤ) (left : ℕ → 
   pub inside : AllByRecursion (λ item. item.0 < length points) items
   pub made : (s : ℕ) → s < length mass → total (λ item. item.1 *ℤ at (point_at points item.0).belief s) items +ℤ left s ≡ at mass s
 
--- so few of the items are of no current corner
+-- how many of the items are of no current corner
 abbrev pub others : (ℕ → ℕ) → ℕ → List (ℕ × ℤ) → ℕ
 others corners states items = length (filter (λ item. not (is_corner corners states item.0)) items)
 

@@ -1,4 +1,4 @@
-use Rattle.std.proofs.Common.{◌≡◌, ℕ, ◌<◌, ◌≤◌, ◌^◌, List, length, get_or, arith, subst, sym}
+use Rattle.std.proofs.Common.{ℕ, ◌≤◌, List, length, get_or, arith, rules, subst, sym}
 use Rattle.std.specs.Prelude.{ℤ, pos, FitsSigned}
 use Rattle.std.specs.Int.{w128}
 use Rattle.std.specs.List.{AllByRecursion}
@@ -23,7 +23,7 @@ pub add-requires-clause-room : goal.add-requires-clause-room
 add-requires-clause-room c =
     let f : ℕ → ℕ = λ s. get_or c.args.corners.now s 0 in
     let s : ℕ = c.loop-s.s in
-    let rest : List ℤ = c.args.rest.now in
-    let fits : FitsSigned w128 (get_or rest s (pos 0)) = part-fits rest s c.requires.rest (omega (arith, c.requires.places)) in
-    simp to_z-of_z (subst (λ (xs : List (ℕ × ℤ)). length (inserted (f s) (get_or rest s (pos 0)) xs) ≤ 24) (sym c.loop-s.invariant)
-    (rests-room f (length c.args.corners.now) rest c.args.out.now s (omega arith) c.requires.states c.requires.rising c.requires.few))
+    let any : (w : ℤ) → length (inserted (f s) w c.loop-s.out) ≤ 24 =
+    λ w. subst (λ (xs : List (ℕ × ℤ)). length (inserted (f s) w xs) ≤ 24) (sym c.loop-s.invariant)
+    (rests-room f (length c.args.corners.now) c.args.rest.now c.args.out.now s w (omega arith) c.requires.states c.requires.rising c.requires.few) in
+    any _

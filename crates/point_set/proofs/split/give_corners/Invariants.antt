@@ -1,4 +1,4 @@
-use Rattle.std.proofs.Common.{◌≡◌, ℕ, get_or}
+use Rattle.std.proofs.Common.{◌≡◌, get_or}
 use Rattle.point_set.specs.Takes.{with_rests}
 use Rattle.point_set.proofs.split.give_corners.Given as goal
 

@@ -1,16 +1,15 @@
-use Rattle.std.proofs.Common.{◌≡◌, ℕ, ◌<◌, ◌≤◌, ◌^◌, ◌∙◌, List, length, take, get_or, map, arith, ap, rules, subst, sym}
+use Rattle.std.proofs.Common.{ℕ, ◌<◌, ◌≤◌, ◌^◌, ◌∙◌, List, length, get_or, ap, rules, subst, sym}
 use Rattle.std.specs.Prelude.{ℤ, pos, FitsSigned, ◌≤ℤ◌}
 use Rattle.std.specs.Int.{w128}
 use Rattle.std.specs.List.{AllByRecursion}
-use Rattle.std.proofs.lemmas.Int.{ints, to_z-of_z}
+use Rattle.std.proofs.lemmas.Int.{to_z-of_z}
 use Rattle.std.proofs.lemmas.List.{length-take-le}
 use Rattle.scaled_num.specs.Share.{at}
 use Rattle.scaled_num.specs.Sums.{sum_of}
 use Rattle.game_model.proofs.Front.{length-map}
 use Rattle.game_model.specs.Game.{IsWithin}
 use Rattle.point_set.specs.Members.{data_of, point_data}
-use Rattle.point_set.specs.Points.{PointData}
-use Rattle.point_set.specs.Takes.{AreBeliefs, AreItems, AreTaken, others, with_rests}
+use Rattle.point_set.specs.Takes.{AreBeliefs, AreItems, others}
 use Rattle.point_set.proofs.Splitting.{IsDone, corners-few, done-by-copy, items-within, measured-beliefs, measured-few, measured-sum, rest-within, sum-within, wanted-few}
 use Rattle.point_set.proofs.split.split_mass.Goals as goal
 

@@ -1,4 +1,4 @@
-use Rattle.std.proofs.Common.{◌≡◌, ℕ, ◌+◌, ◌<◌, ◌≤◌, ◌^◌, ◌∙◌, List, length, get_or, arith, ap, rules, subst, sym}
+use Rattle.std.proofs.Common.{◌≡◌, ℕ, ◌+◌, ◌<◌, ◌^◌, ◌∙◌, List, length, get_or, arith, ap, rules, subst, sym}
 use Rattle.std.specs.Prelude.{ℤ, pos, FitsSigned, ◌≤ℤ◌}
 use Rattle.std.specs.Int.{w128}
 use Rattle.std.proofs.lemmas.Int.{ints, to_z-of_z}
@@ -9,7 +9,6 @@ use Rattle.point_set.specs.Corners.{point_at}
 use Rattle.point_set.specs.Members.{data_of, point_data}
 use Rattle.point_set.specs.Points.{PointData}
 use Rattle.point_set.specs.Split.{TakesMost, less_times}
-use Rattle.point_set.specs.Takes.{inserted}
 use Rattle.point_set.specs.declared.points.Point.{Point as PointParts}
 use Rattle.point_set.proofs.Named.{data-at}
 use Rattle.point_set.proofs.Items.{belief-at}
@@ -63,7 +62,7 @@ loop-place-preserved c =
     let within : IsWithin (pos 0) (pos (2 ^ 66)) times = c.take-times.ensures.within in
     let share : ℤ = get_or shares i (pos 0) in
     let share_fits : FitsSigned w128 share = part-fits shares i c.requires.shares (omega (arith, c.requires.places)) in
-    let told : TakesMost c.loop-place.rest given share times = simp to_z-of_z at c.take-times.ensures.most in
+    let told : TakesMost c.loop-place.rest given share times = search rules in
     let most : TakesMost c.loop-place.rest (point_at (data_of points) k).belief share times = subst (λ (b : List ℤ). TakesMost c.loop-place.rest b share times) same told in
     let left : c.take-times.new.rest ≡ less_times c.loop-place.rest (point_at (data_of points) k).belief times = c.take-times.ensures.rest ∙ ap (λ (b : List ℤ). less_times c.loop-place.rest b times) same in
     let shared : i < length shares = omega (arith, c.requires.places) in

@@ -1,14 +1,12 @@
-use Rattle.std.proofs.Common.{◌≡◌, ℕ, zero, suc, ◌^◌, ◌<◌, List, [], ◌∷◌, length, get_or, replicate, refl, ap, arith, subst, sym, ◌∙◌, length-set}
+use Rattle.std.proofs.Common.{◌≡◌, ℕ, zero, suc, ◌^◌, ◌<◌, List, [], ◌∷◌, length, get_or, replicate, ap, arith, subst, sym, ◌∙◌, length-set}
 use Rattle.std.specs.Prelude.{ℤ, pos, ◌≤ℤ◌, ◌<ℤ◌, ◌*ℤ◌}
 use Rattle.std.proofs.lemmas.Int.{ints}
-use Rattle.std.proofs.lemmas.List.{length-replicate}
 use Rattle.belief.specs.Beliefs.{corner_of}
 use Rattle.game_model.specs.Game.{GameData, IsGame, IsMass}
-use Rattle.point_set.specs.Corners.{HasCorner, IsAtCorner, IsCurrentCorner, point_at}
-use Rattle.point_set.specs.Members.{data_of, point_data}
+use Rattle.point_set.specs.Corners.{HasCorner, IsAtCorner, point_at}
+use Rattle.point_set.specs.Members.{point_data}
 use Rattle.point_set.specs.Points.{PointData}
 use Rattle.point_set.specs.Sawtooth.{AreCorners}
-use Rattle.point_set.specs.Split.{IsWanted}
 use Rattle.point_set.proofs.split_tests.split_by.Goals as goal
 
 at-corner : (point : PointData) (s : ℕ) → s < 2 → point.belief ≡ corner_of 2 s → IsAtCorner s point

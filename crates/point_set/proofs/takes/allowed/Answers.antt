@@ -1,5 +1,5 @@
-use Rattle.std.proofs.Common.{rules, ◌^◌, arith}
-use Rattle.std.specs.Prelude.{ℤ, pos, ◌*ℤ◌, FitsSigned}
+use Rattle.std.proofs.Common.{rules, arith}
+use Rattle.std.specs.Prelude.{◌*ℤ◌, FitsSigned}
 use Rattle.std.specs.Int.{w128}
 use Rattle.std.proofs.lemmas.Int.{ints, to_z-of_z}
 use Rattle.point_set.proofs.Taking.{lesser-all, lesser-floor, product-fits}

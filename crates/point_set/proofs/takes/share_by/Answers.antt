@@ -1,4 +1,4 @@
-use Rattle.std.proofs.Common.{◌≡◌, ◌^◌, ◌*◌, ℕ, List, map, rules, arith, sym, subst}
+use Rattle.std.proofs.Common.{◌^◌, ◌*◌, ℕ, List, map, arith, sym, subst}
 use Rattle.std.specs.Prelude.{ℤ, pos, FitsSigned, ◌*ℤ◌, ◌≤ℤ◌}
 use Rattle.std.specs.Int.{w128}
 use Rattle.std.proofs.lemmas.Int.{ints, to_z-of_z}

@@ -1,11 +1,10 @@
-use Rattle.std.proofs.Common.{◌≡◌, ◌^◌, ℕ, List, length, rules, arith, sym, subst, ◌∙◌}
-use Rattle.std.specs.Prelude.{ℤ, pos, FitsSigned, ◌<ℤ◌}
+use Rattle.std.proofs.Common.{◌^◌, List, rules, arith, sym, subst}
+use Rattle.std.specs.Prelude.{ℤ, FitsSigned}
 use Rattle.std.specs.Int.{w128}
 use Rattle.std.proofs.lemmas.Int.{ints, to_z-of_z}
-use Rattle.scaled_num.specs.Sums.{sum_of}
 use Rattle.point_set.specs.Sawtooth.{FitsTimes, IsMostTimes}
 use Rattle.point_set.specs.Takes.{IsLesser}
-use Rattle.point_set.proofs.Taking.{TakesWell, less-none, takes-none, takes-well, times-within}
+use Rattle.point_set.proofs.Taking.{less-none, takes-none, takes-well, times-within}
 use Rattle.point_set.proofs.takes.take.Goals as goal
 
 pub returns-then-share-total-clause-most : goal.returns-then-share-total-clause-most

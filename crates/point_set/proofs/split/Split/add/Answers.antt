@@ -1,7 +1,7 @@
 use Rattle.std.proofs.Common.{◌≡◌, ℕ, ◌<◌, ◌≤◌, ◌+◌, List, length, length-set, set, take, get_or, arith, rules, subst, sym, ◌∙◌, ap}
 use Rattle.std.specs.Prelude.{ℤ, pos, FitsSigned}
 use Rattle.std.specs.Int.{w128}
-use Rattle.std.specs.List.{AllByRecursion}
+use Rattle.std.specs.List.{AllByRecursion, copy_within}
 use Rattle.std.proofs.lemmas.Int.{to_z-of_z}
 use Rattle.std.proofs.lemmas.List.{length-take-le}
 use Rattle.point_set.specs.Takes.{IsPlace, IsSmall, inserted}
@@ -106,4 +106,7 @@ returns c =
     let more : n < length items = omega (arith, c.self.invariant.1) in
     let weight_fits : FitsSigned w128 w = c.ranges.weight in
     let moved : List (ℕ × ℤ) = c.copy_within.new.self in
-    simp to_z-of_z (ap (λ (xs : List (ℕ × ℤ)). take (n + 1) (set xs place (k, w))) c.copy_within.ensures.after ∙ written-new k w items n place more here apart ∙ ap (inserted k w) c.self.view_is)
+    let done : take (n + 1) (set (copy_within items place n (place + 1)) place (k, w)) ≡ inserted k w (take n items) = written-new k w items n place more here apart in
+    let after : moved ≡ copy_within items place n (place + 1) = search rules in
+    let view : take n items ≡ c.args.self.now = c.self.view_is in
+    simp to_z-of_z (cc)
