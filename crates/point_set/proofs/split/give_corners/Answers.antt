@@ -1,11 +1,9 @@
-use Rattle.std.proofs.Common.{ℕ, ◌≤◌, List, length, get_or, arith, rules, subst, sym}
-use Rattle.std.specs.Prelude.{ℤ, pos, FitsSigned}
-use Rattle.std.specs.Int.{w128}
+use Rattle.std.proofs.Common.{ℕ, ◌≤◌, List, length, get_or, arith, subst, sym}
+use Rattle.std.specs.Prelude.{ℤ}
 use Rattle.std.specs.List.{AllByRecursion}
-use Rattle.std.proofs.lemmas.Int.{to_z-of_z}
 use Rattle.point_set.specs.Split.{AreRisingPairs}
 use Rattle.point_set.specs.Takes.{IsSmall, inserted}
-use Rattle.point_set.proofs.Rests.{part-fits, rests-rise, rests-room, rests-small}
+use Rattle.point_set.proofs.Rests.{rests-rise, rests-room, rests-small}
 use Rattle.point_set.proofs.split.give_corners.Goals as goal
 
 pub add-requires-clause-rising : goal.add-requires-clause-rising
