@@ -17,7 +17,7 @@ pub const STATES: u32 = MOST_STATES as u32;
 const MOST_PAID: u32 = 100;
 
 /// A drawn number below 2^31.
-pub fn draw(seed: &mut u64) -> u64
+fn draw(seed: &mut u64) -> u64
     ensures { result < 2 ^ 31 }
 {
     *seed = seed
@@ -35,25 +35,34 @@ fn draw_within(most: u32, seed: &mut u64) -> i128
     i128::from(draw(seed) % (2 * most + 1)) - i128::from(most)
 }
 
-/// A mass of which so many states have some, up to 2^31 each.
-pub fn draw_mass(held: u32, seed: &mut u64) -> [i128; MOST_STATES] {
+/// The states in a mixed order.
+fn mixed(k: u32) -> usize
+    requires { k < 16 }
+    ensures { result < 16 }
+{
+    ((7 * k + 5) % STATES) as usize
+}
+
+/// A mass of which the first states of the mixed order have some, up to 2^31 each.
+fn draw_mass(held: u32, seed: &mut u64) -> [i128; MOST_STATES]
+    requires { held ≤ 16 }
+{
     let mut mass = [0; MOST_STATES];
-    let mut place = draw(seed);
-    let stride = 2 * draw(seed) + 1;
-    for _ in 0..held {
-        mass[place as usize % MOST_STATES] = i128::from(draw(seed)) + 1;
-        place = place.wrapping_add(stride);
+    for k in 0..held {
+        mass[mixed(k)] = i128::from(draw(seed)) + 1;
     }
     mass
 }
 
-/// So many masses of which so many states have some.
+/// So many masses, of which the first states of the mixed order have some.
 pub fn draw_masses(
     alloc: Global,
     count: u32,
     held: u32,
     seed: &mut u64,
-) -> Result<Vec<[i128; MOST_STATES]>, AllocError> {
+) -> Result<Vec<[i128; MOST_STATES]>, AllocError>
+    requires { held ≤ 16 }
+{
     let mut masses = Vec::new(alloc);
     for _ in 0..count {
         masses.push(draw_mass(held, seed))?;
@@ -114,14 +123,14 @@ fn draw_nodes(alloc: Global, game: &Game, span: u32, seed: &mut u64) -> Result<N
     Ok(nodes)
 }
 
-/// A drawn belief; how many states are likely to have weight in it is drawn first.
+/// A drawn belief: three in four of a drawn number of first states of the mixed order have weight, or one state alone.
 fn draw_belief(game: &Game, seed: &mut u64) -> Belief {
     law_game(game);
     let mut weights = [0; MOST_STATES];
-    let part = draw(seed) % 1024;
-    for s in 0..MOST_STATES {
-        if draw(seed) % 1024 < part {
-            weights[s] = i128::from(draw(seed) % 1024);
+    let held = 2 + (draw(seed) % 15) as u32;
+    for k in 0..held {
+        if draw(seed) % 4 != 0 {
+            weights[mixed(k)] = i128::from(draw(seed) % 1024);
         }
     }
     if is_mass(game, &weights) {
@@ -133,7 +142,7 @@ fn draw_belief(game: &Game, seed: &mut u64) -> Belief {
 }
 
 /// A point without shares, whose value is so many units for each unit of the belief's total.
-fn point_at(alloc: Global, game: &Game, belief: Belief, units: i128) -> Result<Point, AllocError>
+fn plain_point(alloc: Global, game: &Game, belief: Belief, units: i128) -> Result<Point, AllocError>
     requires states { game.now.shape.states ≡ 16 }
     requires units { IsWithin (neg_ℤ (pos (2 ^ 31))) (pos (2 ^ 31)) units }
 {
@@ -161,9 +170,9 @@ fn draw_points(
     let mut points = PointSet::new(alloc, game);
     for j in 0..MOST_POINTS as u32 {
         let point = if j < STATES {
-            point_at(alloc, game, Belief::corner(STATES, j), i128::from(span))?
+            plain_point(alloc, game, Belief::corner(STATES, j), i128::from(span))?
         } else {
-            point_at(
+            plain_point(
                 alloc,
                 game,
                 draw_belief(game, seed),
