@@ -43,15 +43,6 @@ next-cost weights values s sum l room h =
       next = record { is = n.is; small = n.small };
     }
 
--- a weight of 0 adds nothing
-pub same-cost : (weights values : List ℤ) (s : ℕ) (sum : ℤ) → s < length weights → cost_size weights values ≤ 2 ^ 124 → at weights s ≡ pos 0 → CostSoFar weights values s sum → CostSoFar weights values (s + 1) sum
-same-cost weights values s sum l room none h =
-    let n = next-cost weights values s sum l room h in
-    subst (CostSoFar weights values (s + 1)) (ap (λ (w : ℤ). sum +ℤ w *ℤ at values s) none ∙ no-more sum (at values s)) n.next
-  where
-    no-more : (sum v : ℤ) → sum +ℤ pos 0 *ℤ v ≡ sum
-    no-more sum v = omega (arith, ints)
-
 -- ---- sizes
 pub weights-sum : (xs : List ℤ) → AllByRecursion (λ x. pos 0 ≤ℤ x) xs → sum_of xs ≡ pos (sum_by (weight_at xs) (below (length xs)))
 weights-sum xs h =

@@ -1,9 +1,8 @@
-use Rattle.std.proofs.Common.{rules, pos, FitsSigned}
+use Rattle.std.proofs.Common.{rules, FitsSigned}
 use Rattle.std.specs.Int.{w128}
 use Rattle.std.proofs.lemmas.Int.{to_z-of_z}
 use Rattle.scaled_num.specs.Share.{at}
-use Rattle.point_set.proofs.Named.{same-bits}
-use Rattle.point_set.proofs.PointBounds.{next-cost, same-cost}
+use Rattle.point_set.proofs.PointBounds.{next-cost}
 use Rattle.point_set.proofs.sawtooth.cost.Goals as goal
 
 pub overflow_mul-sum : goal.overflow_mul-sum
@@ -20,12 +19,6 @@ overflow_add-sum c =
     let value_fits : FitsSigned w128 (at c.args.values.now c.loop-s.s) = search rules in
     let product_fits = n.product_fits in
     simp to_z-of_z n.sum_fits
-
-pub loop-s-preserved-then-weight-eq0 : goal.loop-s-preserved-then-weight-eq0
-loop-s-preserved-then-weight-eq0 c =
-    let weight_fits : FitsSigned w128 (at c.args.weights.now c.loop-s.s) = search rules in
-    let zero_fits : FitsSigned w128 (pos 0) = search rules in
-    same-cost c.args.weights.now c.args.values.now c.loop-s.s _ c.loop-s-test.true c.requires.small (same-bits (at c.args.weights.now c.loop-s.s) (pos 0) weight_fits zero_fits c.if-weight-eq0.true) c.loop-s.invariant
 
 pub loop-s-preserved : goal.loop-s-preserved
 loop-s-preserved c =
