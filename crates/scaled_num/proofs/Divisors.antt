@@ -1,7 +1,46 @@
--- Where a run of divisions may end.
-use Rattle.std.proofs.Common.{◌≡◌, ℕ, ◌%◌, arith, subst, sym}
-use Rattle.std.specs.Int.{IsGcd}
-use Rattle.std.proofs.lemmas.Nat.Gcd.{IsGcd-from_zero, IsGcd-from_mod}
+-- Where a run of divisions may end, and the greatest common divisor of a list of numbers.
+use Rattle.std.proofs.Common.{◌≡◌, ℕ, ◌+◌, ◌%◌, ◌<◌, List, [], ◌∷◌, ◌++◌, length, get_or, take, arith, subst, sym}
+use Rattle.std.specs.Prelude.{ℤ, unsigned_abs}
+use Rattle.std.specs.List.{AllByRecursion}
+use Rattle.std.specs.Int.{IsGcd, ◌∣◌}
+use Rattle.std.proofs.lemmas.List.{take_more}
+use Rattle.std.proofs.lemmas.Nat.Gcd.{IsGcd-from_zero, IsGcd-from_mod, dvd_trans}
+use Rattle.scaled_num.proofs.Sums.{each-append}
 
 pub IsGcd-from_one : (a b : ℕ) → b ≡ 1 → IsGcd a b 1
 IsGcd-from_one a b e = subst (λ (n : ℕ). IsGcd a n 1) (sym e) (IsGcd-from_mod a 1 1 (IsGcd-from_zero 1 (a % 1) (omega arith)))
+
+abbrev pub Divides : ℕ → ℤ → Type 0
+Divides d x = d ∣ unsigned_abs x
+
+-- the greatest common divisor of the first numbers
+pub record DivisorSoFar (numbers : List ℤ) (i divisor : ℕ) : Type 0 where
+  pub divides : AllByRecursion (Divides divisor) (take i numbers)
+  pub greatest : (d : ℕ) → AllByRecursion (Divides d) (take i numbers) → d ∣ divisor
+
+-- what divides a divisor of all divides all
+divides-less : (d e : ℕ) (xs : List ℤ) → d ∣ e → AllByRecursion (Divides e) xs → AllByRecursion (Divides d) xs
+divides-less d e [] h all = tt
+divides-less d e (x ∷ xs) h all = (dvd_trans d h all.0, divides-less d e xs h all.1)
+
+each-front : {X : Type 0} (P : X → Type 0) (xs ys : List X) → AllByRecursion P (xs ++ ys) → AllByRecursion P xs
+each-front P [] ys h = tt
+each-front P (x ∷ xs) ys h = (h.0, each-front P xs ys h.1)
+
+each-back : {X : Type 0} (P : X → Type 0) (xs ys : List X) → AllByRecursion P (xs ++ ys) → AllByRecursion P ys
+each-back P [] ys h = h
+each-back P (x ∷ xs) ys h = each-back P xs ys h.1
+
+pub next-divisor : (numbers : List ℤ) (i : ℕ) (x : ℤ) (divisor g : ℕ) → i < length numbers → DivisorSoFar numbers i divisor →
+    IsGcd divisor (unsigned_abs (get_or numbers i x)) g → DivisorSoFar numbers (i + 1) g
+next-divisor numbers i x divisor g l so_far h =
+    let here = get_or numbers i x in
+    let front = take i numbers in
+    let more : take (i + 1) numbers ≡ front ++ here ∷ [] = take_more numbers i x l in
+    record {
+      divides = subst (λ (xs : List ℤ). AllByRecursion (Divides g) xs) (sym more)
+          (each-append (Divides g) front (here ∷ []) (divides-less g divisor front h.0 so_far.divides) (h.1, tt));
+      greatest = λ d all.
+          let parts : AllByRecursion (Divides d) (front ++ here ∷ []) = subst (λ (xs : List ℤ). AllByRecursion (Divides d) xs) more all in
+          h.2 d (so_far.greatest d (each-front (Divides d) front (here ∷ []) parts)) (each-back (Divides d) front (here ∷ []) parts).0;
+    }

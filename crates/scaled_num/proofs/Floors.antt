@@ -2,14 +2,14 @@
 use Rattle.std.proofs.Common.{◌≡◌, ◌≢◌, ℕ, suc, zero, ◌+◌, ◌^◌, FitsSigned, of_z, subst, below_more, ◌<◌, List, [], ◌∷◌, length, set, drop, replicate, refl, ap, arith, sym, ◌∙◌}
 use Rattle.std.specs.Prelude.{ℤ, pos, negsuc, ◌+ℤ◌, ◌-ℤ◌, ◌*ℤ◌, ◌≤ℤ◌, ◌<ℤ◌}
 use Rattle.std.specs.Int.{w128}
-use Rattle.std.specs.List.{All}
+use Rattle.std.specs.List.{All, AllByRecursion}
 use Rattle.std.proofs.lemmas.Int.{ints, by_lt_z}
 use Rattle.std.proofs.lemmas.List.{get_or-set_same, get_or-set_other}
 use borrow.Author.Differences.{product_is}
 use Rattle.scaled_num.specs.Sums.{sum_of, total, below}
 use Rattle.scaled_num.specs.Share.{at, IsFloor, AreFloors}
 use Rattle.scaled_num.proofs.Products.{le-mulℤ, mulℤ_comm, add-mulℤ}
-use Rattle.scaled_num.proofs.Sums.{total-scale, total-below-le, total-places}
+use Rattle.scaled_num.proofs.Sums.{each-at, total-scale, total-below-le, total-places}
 
 -- no number is negative
 abbrev pub NoneNegative : List ℤ → Type 0
@@ -31,6 +31,13 @@ All-at P (x ∷ xs) h = each (λ k d l. All-at P xs (λ i m. h (suc i) (omega ar
     each : All P xs → All P (x ∷ xs)
     each rest zero d l = h 0 (omega arith)
     each rest (suc k) d l = rest k d (omega arith)
+
+pub All-from_recursion : (P : ℤ → Type 0) (xs : List ℤ) → AllByRecursion P xs → All P xs
+All-from_recursion P xs h = λ k d l. each-at P d xs k h l
+
+pub All-to_recursion : (P : ℤ → Type 0) (xs : List ℤ) → All P xs → AllByRecursion P xs
+All-to_recursion P [] h = tt
+All-to_recursion P (x ∷ xs) h = (h 0 (pos 0) (omega arith), All-to_recursion P xs (All-tail P x xs h))
 
 pub tail-none_negative : (x : ℤ) (xs : List ℤ) → NoneNegative (x ∷ xs) → NoneNegative xs
 tail-none_negative x xs h = All-tail (λ x. pos 0 ≤ℤ x) x xs h

@@ -1,5 +1,5 @@
 -- Sums of signed numbers over lists.
-use Rattle.std.proofs.Common.{◌≡◌, ℕ, suc, zero, ◌+◌, ◌<◌, ◌≤◌, List, [], ◌∷◌, ◌++◌, length, get_or, refl, ap, arith, sym, ◌∙◌, add-one}
+use Rattle.std.proofs.Common.{◌≡◌, ℕ, suc, zero, ◌+◌, ◌*◌, ◌<◌, ◌≤◌, List, [], ◌∷◌, ◌++◌, length, get_or, refl, ap, arith, sym, ◌∙◌, add-one}
 use Rattle.std.specs.Prelude.{ℤ, pos, ◌+ℤ◌, ◌*ℤ◌, ◌≤ℤ◌, sum_by, map, flat_map}
 use Rattle.std.specs.List.{AllByRecursion, range_with_len}
 use Rattle.std.proofs.lemmas.Int.{ints}
@@ -8,7 +8,7 @@ use Rattle.std.specs.Prelude.{cond, ◌==◌}
 use Rattle.std.proofs.Common.{inl, inr, ne_eqb}
 use Rattle.std.proofs.lemmas.Bool.Decides.{eqb_tells}
 use borrow.Author.Differences.{up}
-use Rattle.scaled_num.specs.Sums.{total, below}
+use Rattle.scaled_num.specs.Sums.{total, below, sum_of}
 use Rattle.scaled_num.proofs.Products.{mul-addℤ, mulℤ_comm}
 
 pub total-append : {X : Type 0} (f : X → ℤ) (xs ys : List X) → total f (xs ++ ys) ≡ total f xs +ℤ total f ys
@@ -42,6 +42,14 @@ total-le f g (x ∷ xs) h = omega (arith, ints, h.0, total-le f g xs h.1)
 pub total-pos : {X : Type 0} (f : X → ℕ) (xs : List X) → total (λ x. pos (f x)) xs ≡ pos (sum_by f xs)
 total-pos f [] = refl
 total-pos f (x ∷ xs) = ap (λ z. pos (f x) +ℤ z) (total-pos f xs) ∙ ap pos (sym (sum_by-cons f x xs))
+
+-- numbers that are each between 0 and a bound sum to at most so many times the bound
+pub sum-most : (most : ℕ) (xs : List ℤ) → AllByRecursion (λ x. (pos 0 ≤ℤ x) × (x ≤ℤ pos most)) xs → sum_of xs ≤ℤ pos (length xs * most)
+sum-most most [] h = omega (arith, ints)
+sum-most most (x ∷ xs) h = let high = h.0.1 in omega (arith, ints, sum-most most xs h.1, one-more (length xs) most)
+  where
+    one-more : (n k : ℕ) → suc n * k ≡ k + n * k
+    one-more n k = omega arith
 
 -- what holds of everything holds of each element
 pub each : {X : Type 0} {P : X → Type 0} → ((x : X) → P x) → (xs : List X) → AllByRecursion P xs

@@ -4,6 +4,7 @@ ghost use Rattle.scaled_num.specs.Sums.{sum_of};
 ghost use Rattle.scaled_num.specs.Share.{IsShared, AreFloors, IsFirstGreatest};
 
 use crate::floor_div;
+use crate::lists::sum;
 
 /// Shares the total by the weights. Place `i` gets `floor(weights[i] * total / sum)`, and what is then missing from the
 /// total is added at the first place of greatest weight. Where all weights are 0, place 0 gets the total and the
@@ -19,28 +20,15 @@ pub fn take_share(weights: &[i128], total: i128, out: &mut [i128])
     ensures whole { sum_of out.new ≡ total }
     ensures positive { All (λ share. pos 0 ≤ℤ share) out.new }
 {
-    let sum = add_up(weights);
-    if sum == 0 {
+    let whole = sum(weights);
+    if whole == 0 {
         out.fill(0);
         out[0] = total;
         return;
     }
-    take_floors(weights, sum, total, out);
-    let missing = total - add_up(out);
+    take_floors(weights, whole, total, out);
+    let missing = total - sum(out);
     out[first_greatest(weights)] += missing;
-}
-
-/// The sum of numbers that are not negative.
-fn add_up(numbers: &[i128]) -> i128
-    requires numbers { All (λ number. pos 0 ≤ℤ number) numbers.now }
-    requires sum { sum_of numbers.now ≤ℤ pos (2 ^ 126) }
-    ensures { result ≡ sum_of numbers.now }
-{
-    let mut sum = 0;
-    for number in numbers {
-        sum += *number;
-    }
-    sum
 }
 
 /// The first place of greatest weight.

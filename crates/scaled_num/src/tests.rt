@@ -1,6 +1,9 @@
 ghost use Rattle.std.specs.Prelude.{pos, ◌<ℤ◌};
 
-use crate::{Fraction, ceil_div, decimals_down, decimals_up, floor_div, gcd, print, take_share};
+use crate::{
+    Fraction, ceil_div, common_divisor, decimals_down, decimals_up, floor_div, gcd, print, sum,
+    take_share,
+};
 use std::test::Fail;
 
 #[test]
@@ -19,6 +22,13 @@ fn divisors_of_short_and_long_numbers(rt: HostRuntime) {
     assert_eq!(rt; gcd(0, 1 << 100), 1 << 100);
     assert_eq!(rt; gcd(1 << 100, 3 << 70), 1 << 70);
     assert_eq!(rt; gcd(1_000_003, 1 << 100), 1);
+}
+
+#[test]
+fn lists_have_a_sum_and_a_divisor(rt: HostRuntime) {
+    assert_eq!(rt; sum(&[4, 0, 5]), 9);
+    assert_eq!(rt; common_divisor(&[12, -18, 0]), 6);
+    assert_eq!(rt; common_divisor(&[0, 0]), 0);
 }
 
 #[test]

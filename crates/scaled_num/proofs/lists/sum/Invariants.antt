@@ -1,6 +1,6 @@
 use Rattle.std.proofs.Common.{◌≡◌, pos, ◌+ℤ◌, ◌≤ℤ◌, drop}
 use Rattle.scaled_num.specs.Sums.{sum_of}
-use Rattle.scaled_num.proofs.shares.add_up.Given as goal
+use Rattle.scaled_num.proofs.lists.sum.Given as goal
 
 abbrev pub invariant-loop-number : goal.invariant-loop-number
 invariant-loop-number l = record {

@@ -1,0 +1,5 @@
+use Rattle.scaled_num.proofs.Divisors.{DivisorSoFar}
+use Rattle.scaled_num.proofs.lists.common_divisor.Given as goal
+
+abbrev pub invariant-loop-number : goal.invariant-loop-number
+invariant-loop-number l = DivisorSoFar l.numbers l.number-index l.divisor
