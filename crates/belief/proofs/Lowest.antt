@@ -9,7 +9,7 @@ use Rattle.std.proofs.lemmas.Nat.Gcd.{dvd-zero}
 use Rattle.std.proofs.Math.Nat.{mul-dvd-mul_left, dvd_of_mul-dvd-mul_left, eq-zero_of_zero-dvd, eq-one_of_dvd-one, div-le_self, mul-div_cancel'}
 use Rattle.scaled_num.specs.Sums.{sum_of}
 use Rattle.game_model.specs.Game.{AreCoprime, IsWithin}
-use Rattle.game_model.proofs.Divisor.{Divides}
+use Rattle.scaled_num.proofs.Divisors.{Divides}
 use Rattle.belief.specs.Beliefs.{AreParts}
 use Rattle.belief.specs.Quotients.{quotients}
 use Rattle.belief.specs.Reduced.{AreLowest, IsReduced, IsSharedOut, most_total}

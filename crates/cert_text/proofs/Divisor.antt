@@ -9,7 +9,7 @@ use Rattle.std.proofs.lemmas.Nat.Gcd.{IsGcd-from_zero, IsGcd-from_mod, dvd_trans
 use Rattle.std.proofs.Math.Nat.{mod-lt, eq-one_of_dvd-one}
 use Rattle.std.proofs.lemmas.List.{take_all}
 use Rattle.game_model.specs.Game.{AreCoprime}
-use Rattle.game_model.proofs.Divisor.{DivisorSoFar}
+use Rattle.scaled_num.proofs.Divisors.{DivisorSoFar}
 use Rattle.cert_text.specs.Forms.{divisor_within, common_divisor}
 
 within_by : (steps a b : ℕ) → b ≤ suc steps → (e : Bool) → eqb b 0 ≡ e → ((c d : ℕ) → d ≤ steps → IsGcd c d (divisor_within steps c d)) → IsGcd a b (divisor_within (suc steps) a b)

@@ -1,47 +1,15 @@
--- The greatest common divisor of a list of weights.
-use Rattle.std.proofs.Common.{◌≡◌, ℕ, zero, suc, ◌+◌, ◌*◌, ◌^◌, ◌<◌, ◌≤◌, List, [], ◌∷◌, ◌++◌, length, get_or, take, map, refl, ap, arith, sym, subst, ◌∙◌}
+-- The weights of a belief over their greatest common divisor.
+use Rattle.std.proofs.Common.{◌≡◌, ℕ, zero, suc, ◌*◌, ◌^◌, ◌≤◌, List, [], ◌∷◌, map, refl, ap, arith, sym, subst, ◌∙◌}
 use Rattle.std.specs.Prelude.{ℤ, pos, negsuc, ◌*ℤ◌, ◌≤ℤ◌, unsigned_abs, int_div}
 use Rattle.std.specs.List.{AllByRecursion}
-use Rattle.std.specs.Int.{IsGcd, ◌∣◌}
+use Rattle.std.specs.Int.{◌∣◌}
 use Rattle.std.proofs.lemmas.Int.{ints, unsigned_abs-mul}
 use Rattle.std.proofs.lemmas.Nat.{div-add-mod'}
-use Rattle.std.proofs.lemmas.Nat.Gcd.{dvd_trans, le_of_dvd, mod-eq-zero_of_dvd}
+use Rattle.std.proofs.lemmas.Nat.Gcd.{le_of_dvd, mod-eq-zero_of_dvd}
 use Rattle.std.proofs.Math.Nat.{mul-dvd-mul_left, dvd_of_mul-dvd-mul_left, eq-zero_of_zero-dvd, eq-one_of_dvd-one}
-use Rattle.std.proofs.lemmas.List.{take_more}
-use Rattle.scaled_num.proofs.Sums.{each-append}
+use Rattle.scaled_num.proofs.Divisors.{Divides}
 use Rattle.scaled_num.specs.Sums.{sum_of}
 use Rattle.game_model.specs.Game.{IsWithin, AreCoprime}
-use Rattle.game_model.proofs.Pay.{each-from}
-
-abbrev pub Divides : ℕ → ℤ → Type 0
-Divides d x = d ∣ unsigned_abs x
-
--- the greatest common divisor of the first weights
-pub record DivisorSoFar (weights : List ℤ) (i divisor : ℕ) : Type 0 where
-  pub divides : AllByRecursion (Divides divisor) (take i weights)
-  pub greatest : (d : ℕ) → AllByRecursion (Divides d) (take i weights) → d ∣ divisor
-
-each-front : {X : Type 0} (P : X → Type 0) (xs ys : List X) → AllByRecursion P (xs ++ ys) → AllByRecursion P xs
-each-front P [] ys h = tt
-each-front P (x ∷ xs) ys h = (h.0, each-front P xs ys h.1)
-
-each-back : {X : Type 0} (P : X → Type 0) (xs ys : List X) → AllByRecursion P (xs ++ ys) → AllByRecursion P ys
-each-back P [] ys h = h
-each-back P (x ∷ xs) ys h = each-back P xs ys h.1
-
-pub next-divisor : (weights : List ℤ) (i : ℕ) (x : ℤ) (divisor g : ℕ) → i < length weights → DivisorSoFar weights i divisor →
-    IsGcd divisor (unsigned_abs (get_or weights i x)) g → DivisorSoFar weights (i + 1) g
-next-divisor weights i x divisor g l so_far h =
-    let here = get_or weights i x in
-    let front = take i weights in
-    let more : take (i + 1) weights ≡ front ++ here ∷ [] = take_more weights i x l in
-    record {
-      divides = subst (λ (xs : List ℤ). AllByRecursion (Divides g) xs) (sym more)
-          (each-append (Divides g) front (here ∷ []) (each-from (Divides divisor) (Divides g) front (λ y d. dvd_trans g h.0 d) so_far.divides) (h.1, tt));
-      greatest = λ d all.
-          let parts : AllByRecursion (Divides d) (front ++ here ∷ []) = subst (λ (xs : List ℤ). AllByRecursion (Divides d) xs) more all in
-          h.2 d (so_far.greatest d (each-front (Divides d) front (here ∷ []) parts)) (each-back (Divides d) front (here ∷ []) parts).0;
-    }
 
 -- an exact quotient
 pub exact : (d : ℕ) (w : ℤ) → pos 0 ≤ℤ w → Divides d w → w ≡ pos d *ℤ int_div w (pos d)

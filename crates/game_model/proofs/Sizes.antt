@@ -1,44 +1,17 @@
--- Running sums over lists, and their size.
-use Rattle.std.proofs.Common.{◌≡◌, ℕ, ◌+◌, ◌*◌, ◌^◌, ◌<◌, ◌≤◌, List, [], ◌∷◌, length, ◌++◌, get_or, take, map, ap, arith, sym, ◌∙◌}
-use Rattle.std.specs.Prelude.{ℤ, pos, ◌+ℤ◌, ◌≤ℤ◌, FitsSigned, unsigned_abs}
+-- One more of a list, and the size of numbers.
+use Rattle.std.proofs.Common.{◌≡◌, ℕ, ◌+◌, ◌^◌, ◌<◌, ◌≤◌, List, [], ◌∷◌, length, ◌++◌, get_or, take, map, ap, arith, ◌∙◌}
+use Rattle.std.specs.Prelude.{ℤ, pos, ◌+ℤ◌, FitsSigned, unsigned_abs}
 use Rattle.std.specs.List.{AllByRecursion}
 use Rattle.std.specs.Int.{w128}
 use Rattle.std.proofs.lemmas.Int.{ints, fits_signed_from_abs}
 use Rattle.std.proofs.lemmas.List.{take_more, map-append}
-use Rattle.scaled_num.specs.Sums.{total, sum_of}
+use Rattle.scaled_num.specs.Sums.{total}
 use Rattle.scaled_num.proofs.Products.{sums}
 use Rattle.scaled_num.proofs.Sums.{total-append, each-at}
 use Rattle.game_model.specs.Game.{IsWithin}
 
 pub total-more : {X : Type 0} (f : X → ℤ) (xs : List X) (i : ℕ) (d : X) → i < length xs → total f (take (i + 1) xs) ≡ total f (take i xs) +ℤ f (get_or xs i d)
 total-more f xs i d l = ap (total f) (take_more xs i d l) ∙ total-append f (take i xs) (get_or xs i d ∷ []) ∙ omega (arith, sums)
-
--- the sum of the first weights of a belief
-pub record SumSoFar (weights : List ℤ) (i : ℕ) (sum : ℤ) : Type 0 where
-  pub is : sum ≡ sum_of (take i weights)
-  pub low : pos 0 ≤ℤ sum
-  pub high : sum ≤ℤ pos (i * 2 ^ 20)
-
-pub record NextSum (weights : List ℤ) (i : ℕ) (x sum : ℤ) : Type 0 where
-  pub fits : FitsSigned w128 x
-  pub sum_fits : FitsSigned w128 (sum +ℤ x)
-  pub next : SumSoFar weights (i + 1) (sum +ℤ x)
-
-pub next-sum : (weights : List ℤ) (i : ℕ) (d sum : ℤ) → i < length weights → length weights ≤ 16 → AllByRecursion (IsWithin (pos 0) (pos (2 ^ 20))) weights →
-    SumSoFar weights i sum → NextSum weights i (get_or weights i d) sum
-next-sum weights i d sum l few each so_far =
-    let w = each-at (IsWithin (pos 0) (pos (2 ^ 20))) d weights i each l in
-    let low = w.0 in
-    let high = w.1 in
-    record {
-      fits = fits_signed_from_abs w128 (get_or weights i d) (omega (arith, ints));
-      sum_fits = fits_signed_from_abs w128 (sum +ℤ get_or weights i d) (omega (arith, ints));
-      next = record {
-        is = ap (λ z. z +ℤ get_or weights i d) so_far.is ∙ sym (total-more (λ x. x) weights i d l);
-        low = omega (arith, ints);
-        high = omega (arith, ints);
-      };
-    }
 
 pub map-more : {X Y : Type 0} (f : X → Y) (xs : List X) (i : ℕ) (d : X) → i < length xs → map f (take (i + 1) xs) ≡ map f (take i xs) ++ f (get_or xs i d) ∷ []
 map-more f xs i d l = ap (map f) (take_more xs i d l) ∙ map-append f (take i xs) (get_or xs i d ∷ [])

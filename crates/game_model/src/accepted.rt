@@ -6,9 +6,8 @@ ghost use Rattle.scaled_num.specs.Sums.{sum_of};
 ghost use Rattle.std.specs.List.{AllByRecursion};
 ghost use Rattle.std.specs.Prelude.{fold, length, max, pos, unsigned_abs, ◌<◌, ◌^◌, ◌≡◌, ◌≤ℤ◌};
 
-use crate::limits::sum;
 use crate::parts::{Entry, Landing, Shape, UNITS};
-use scaled_num::ceil_div;
+use scaled_num::{ceil_div, sum};
 use std::marker::Model;
 
 /// A game that keeps every limit: its shape, its first belief, and for each state, own action and informed action

@@ -1,17 +1,15 @@
 ghost use Rattle.game_model.specs.Build.{IsMultiple, IsNext};
 ghost use Rattle.game_model.specs.Bounds.{HasCounts, HasFractions};
 ghost use Rattle.game_model.specs.Game.{AreCoprime, IsBelief, IsLanding, IsNarrow, IsRewardInRange, IsShape, IsWithin, triples};
-ghost use Rattle.scaled_num.specs.Sums.{sum_of};
 ghost use Rattle.std.specs.Bool.{IsTrue};
-ghost use Rattle.std.specs.Int.{◌∣◌};
 ghost use Rattle.std.specs.List.{AllByRecursion};
-ghost use Rattle.std.specs.Prelude.{IfOk, int_div, length, map, max, pos, unsigned_abs, ℕ, ◌<ℤ◌, ◌^◌, ◌↔◌, ◌≡◌, ◌≤◌};
+ghost use Rattle.std.specs.Prelude.{IfOk, int_div, map, max, pos, unsigned_abs, ℕ, ◌<ℤ◌, ◌^◌, ◌↔◌, ◌≡◌, ◌≤◌};
 
 use crate::parts::{
     Landing, MOST_ACTIONS, MOST_BELIEF, MOST_DISCOUNT, MOST_OBSERVATIONS, MOST_REWARD,
     MOST_ROW_TOTAL, MOST_STATES, MOST_WIDTH, Shape,
 };
-use scaled_num::gcd;
+use scaled_num::{common_divisor, sum};
 use std::alloc::{AllocError, Global};
 
 /// Whether each field of a shape is within its limit.
@@ -48,19 +46,6 @@ fn is_count(count: u32, most: u32) -> bool
     ensures { IsTrue result ↔ ((1 ≤ count) × (count ≤ most)) }
 {
     1 <= count && count <= most
-}
-
-/// The sum of the weights of a belief.
-pub fn sum(weights: &[i128]) -> i128
-    requires each { AllByRecursion (IsWithin (pos 0) (pos (2 ^ 20))) weights.now }
-    requires few { length weights.now ≤ 16 }
-    ensures { result ≡ sum_of weights.now }
-{
-    let mut sum = 0;
-    for weight in weights {
-        sum += *weight;
-    }
-    sum
 }
 
 /// Whether each weight of a belief is within its limit.
@@ -136,19 +121,6 @@ pub fn is_next(row: &[Landing], landing: &Landing) -> bool
         return true;
     };
     last.seen < landing.seen || (last.seen == landing.seen && last.to < landing.to)
-}
-
-/// The greatest common divisor of the weights of a belief.
-fn common_divisor(weights: &[i128]) -> u128
-    requires { AllByRecursion (IsWithin (pos 0) (pos (2 ^ 20))) weights.now }
-    ensures divides { AllByRecursion (λ x. result ∣ unsigned_abs x) weights.now }
-    ensures greatest { (d : ℕ) → AllByRecursion (λ x. d ∣ unsigned_abs x) weights.now → d ∣ result }
-{
-    let mut divisor = 0;
-    for weight in weights {
-        divisor = gcd(divisor, *weight as u128);
-    }
-    divisor
 }
 
 /// The weights of a belief, divided by their greatest common divisor.

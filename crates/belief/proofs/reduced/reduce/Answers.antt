@@ -2,7 +2,7 @@ use Rattle.std.proofs.Common.{refl, subst, true≢false}
 use Rattle.std.specs.Prelude.{ℕ}
 use Rattle.std.proofs.Math.Nat.{eq-zero_of_zero-dvd}
 use Rattle.std.specs.List.{AllByRecursion}
-use Rattle.game_model.proofs.Divisor.{Divides}
+use Rattle.scaled_num.proofs.Divisors.{Divides}
 use Rattle.belief.proofs.Lowest.{zeros-divided, zeros-from}
 use Rattle.belief.proofs.reduced.reduce.Goals as goal
 

@@ -4,7 +4,7 @@ use mir.Val.{SFits}
 use Rattle.std.specs.Int.{IsGcd}
 use Rattle.std.proofs.lemmas.Int.{to_z-of_z}
 use Rattle.std.specs.Prelude.{pos, unsigned_abs}
-use Rattle.game_model.proofs.Divisor.{next-divisor}
+use Rattle.scaled_num.proofs.Divisors.{next-divisor}
 use Rattle.cert_text.proofs.Divisor.{common_is, greatest_same, so_far_all}
 use Rattle.cert_text.proofs.guards.common_divisor.Goals as goal
 

@@ -1,4 +1,4 @@
-use Rattle.game_model.proofs.Divisor.{DivisorSoFar}
+use Rattle.scaled_num.proofs.Divisors.{DivisorSoFar}
 use Rattle.cert_text.proofs.guards.common_divisor.Given as goal
 
 abbrev pub invariant-loop-number : goal.invariant-loop-number

@@ -1,5 +1,0 @@
-use Rattle.game_model.proofs.Divisor.{DivisorSoFar}
-use Rattle.game_model.proofs.limits.common_divisor.Given as goal
-
-abbrev pub invariant-loop-weight : goal.invariant-loop-weight
-invariant-loop-weight l = DivisorSoFar l.weights l.weight-index l.divisor

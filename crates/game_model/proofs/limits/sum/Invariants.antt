@@ -1,5 +1,0 @@
-use Rattle.game_model.proofs.Sizes.{SumSoFar}
-use Rattle.game_model.proofs.limits.sum.Given as goal
-
-abbrev pub invariant-loop-weight : goal.invariant-loop-weight
-invariant-loop-weight l = SumSoFar l.weights l.weight-index l.sum
