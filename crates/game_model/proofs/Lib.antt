@@ -16,3 +16,4 @@ pub mod Front
 pub mod Worth
 pub mod Expected
 pub mod Least
+pub mod FirstProduct

@@ -1,10 +1,11 @@
 ghost use Rattle.game_model.specs.Build.{data_of};
 ghost use Rattle.game_model.specs.Bounds.{span_from};
-ghost use Rattle.game_model.specs.Game.{IsGame, IsRewardInRange, IsShape, numbers, reward_at, row_at, span, triple};
+ghost use Rattle.game_model.specs.Game.{IsGame, IsRewardInRange, IsShape, IsWithin, first_at, numbers, reward_at, row_at, span, triple};
+ghost use Rattle.game_model.specs.Numbers.{product};
 ghost use Rattle.game_model.specs.Seeds.{KeepsSpan};
-ghost use Rattle.scaled_num.specs.Sums.{sum_of};
+ghost use Rattle.scaled_num.specs.Sums.{below, sum_of, total};
 ghost use Rattle.std.specs.List.{AllByRecursion};
-ghost use Rattle.std.specs.Prelude.{fold, length, max, pos, unsigned_abs, ◌<◌, ◌^◌, ◌≡◌, ◌≤ℤ◌};
+ghost use Rattle.std.specs.Prelude.{fold, length, max, pos, slice_index_or, unsigned_abs, ◌*ℤ◌, ◌<◌, ◌^◌, ◌≡◌, ◌≤ℤ◌, ◌≤◌};
 
 use crate::parts::{Entry, Landing, Shape, UNITS};
 use scaled_num::{ceil_div, sum};
@@ -122,6 +123,15 @@ impl Game {
         sum(&self.first)
     }
 
+    /// The product of the first belief with a vector: the sum over the states of the weight times the entry.
+    pub fn first_product(&self, vector: &[i128]) -> i128
+        requires long { length vector.now ≡ self.now.shape.states }
+        requires entries { AllByRecursion (λ x. unsigned_abs x ≤ 2 ^ 70) vector.now }
+        ensures { result ≡ product (numbers self.now) (first_at self.now) (λ s. slice_index_or vector.now s (pos 0)) }
+    {
+        weighted(&self.first, vector)
+    }
+
     /// The span in units: the greatest magnitude of a reward, times the denominator over the denominator less the
     /// numerator of the discount, rounded up.
     pub fn span(&self) -> i128
@@ -149,6 +159,21 @@ pub fn law_game(game: &Game)
     ensures keeps_span { KeepsSpan (numbers game.now) (span game.now) }
 {
     let _width = game.width;
+}
+
+/// The sum of a vector's entries by weights.
+fn weighted(weights: &[i128], vector: &[i128]) -> i128
+    requires same { length weights.now ≡ length vector.now }
+    requires few { length weights.now ≤ 16 }
+    requires weights { AllByRecursion (IsWithin (pos 0) (pos (2 ^ 20))) weights.now }
+    requires entries { AllByRecursion (λ x. unsigned_abs x ≤ 2 ^ 70) vector.now }
+    ensures { result ≡ total (λ s. slice_index_or weights.now s (pos 0) *ℤ slice_index_or vector.now s (pos 0)) (below (length weights.now)) }
+{
+    let mut sum = 0;
+    for s in 0..weights.len() {
+        sum += weights[s] * vector[s];
+    }
+    sum
 }
 
 /// The span of games whose rewards have this greatest magnitude.
