@@ -35,15 +35,6 @@ first-total-within g h =
     (omega (arith, ints), omega (arith, ints))
 
 -- the product of the first belief with the start node's vector, as the code finds it
-pub start-is : (g : GameData) → IsGame g → (k : CertificateData) (vector : List ℤ) → vector ≡ (get_or k.nodes k.start_node no_node).vector →
-    total (λ s. get_or g.first s (pos 0) *ℤ get_or vector s (pos 0)) (below (length g.first)) ≡ start_product g k
-start-is g h k vector e =
-    ap (λ (n : ℕ). total (λ s. get_or g.first s (pos 0) *ℤ get_or vector s (pos 0)) (below n)) h.first.long
-    ∙ total-below g.shape.states (λ s. get_or g.first s (pos 0) *ℤ get_or vector s (pos 0)) (λ s. pos (first_at g s) *ℤ (nodes_of k.nodes k.start_node).vector s)
-    (λ s l.
-    ap (λ (z : ℤ). z *ℤ get_or vector s (pos 0)) (magnitude-is (get_or g.first s (pos 0)) (each-at (IsWithin (pos 0) (pos (2 ^ 20))) (pos 0) g.first s h.first.each (subst (λ (n : ℕ). s < n) (sym h.first.long) l)).0)
-    ∙ ap (λ (v : List ℤ). pos (first_at g s) *ℤ get_or v s (pos 0)) e)
-
 within : (V : ℕ) (x : ℤ) → IsWithin (neg_ℤ (pos V)) (pos V) x → unsigned_abs x ≤ V
 within V x h = let low = h.0 in let high = h.1 in omega (arith, ints)
 

@@ -92,22 +92,7 @@ fn start_worth(game: &Game, certificate: &Certificate) -> i128
 {
     law_game(game);
     let start = certificate.nodes.node(certificate.start_node);
-    product(game.first(), &start.vector)
-}
-
-/// The sum of weights times the entries of a vector.
-fn product(weights: &[i128], vector: &[i128]) -> i128
-    requires weights { AllByRecursion (IsWithin (pos 0) (pos (2 ^ 20))) weights.now }
-    requires few { length weights.now ≤ 16 }
-    requires long { length vector.now ≡ length weights.now }
-    requires entries { AllByRecursion (λ x. unsigned_abs x ≤ 2 ^ 66) vector.now }
-    ensures { result ≡ total (λ s. slice_index_or weights.now s (pos 0) *ℤ slice_index_or vector.now s (pos 0)) (below (length weights.now)) }
-{
-    let mut sum = 0;
-    for s in 0..weights.len() {
-        sum += weights[s] * vector[s];
-    }
-    sum
+    game.first_product(&start.vector)
 }
 
 /// Whether the outcome says whether the gap is within the tolerance.

@@ -1,4 +1,3 @@
-pub mod Products
 pub mod Choice
 pub mod Seeded
 pub mod Once

@@ -1,4 +1,4 @@
--- A seed vector that stands in a list: the size of its entries, and its product with the first belief.
+-- A seed vector that stands in a list: the size of its entries.
 use Rattle.std.proofs.Common.{◌≡◌, ℕ, ◌^◌, ◌<◌, ◌≤◌, List, length, sym, ap, subst, arith}
 use Rattle.std.specs.Prelude.{ℤ, pos, neg_ℤ, ◌*ℤ◌, ◌≤ℤ◌, unsigned_abs, slice_index_or}
 use Rattle.std.specs.List.{AllByRecursion}
@@ -10,7 +10,6 @@ use Rattle.game_model.specs.Numbers.{product}
 use Rattle.game_model.specs.Seeds.{IsSeed, SeedsStand, KeepsSpan}
 use Rattle.game_model.proofs.Front.{each-by-place}
 use Rattle.game_model.proofs.Worth.{span-small}
-use Rattle.osposg_cli.proofs.Products.{term}
 
 within-abs : (x : ℤ) (n most : ℕ) → (neg_ℤ (pos n)) ≤ℤ x → x ≤ℤ pos n → n ≤ most → unsigned_abs x ≤ most
 within-abs x n most low high l = omega (arith, ints)
@@ -22,13 +21,3 @@ entries-small g a vector stand game keeps la long seed =
     each-by-place (λ x. unsigned_abs x ≤ 2 ^ 70) (pos 0) vector (λ s l.
     let h = (stand (numbers g) (span g) a (λ s. slice_index_or vector s (pos 0)) keeps la seed).1 s (subst (λ (n : ℕ). s < n) long l) in
     within-abs (slice_index_or vector s (pos 0)) (span g) (2 ^ 70) h.0 h.1 (omega arith))
-
-same-abs : (x : ℤ) → pos 0 ≤ℤ x → x ≡ pos (unsigned_abs x)
-same-abs x h = omega (arith, ints)
-
-pub product-is : (g : GameData) (vector : List ℤ) → IsGame g → product (numbers g) (first_at g) (λ s. slice_index_or vector s (pos 0)) ≡ total (term g.first vector) (below (length g.first))
-product-is g vector game =
-    subst (λ (n : ℕ). product (numbers g) (first_at g) (λ s. slice_index_or vector s (pos 0)) ≡ total (term g.first vector) (below n)) (sym game.first.long)
-    (total-below g.shape.states _ (term g.first vector) (λ s l.
-    ap (λ (z : ℤ). z *ℤ slice_index_or vector s (pos 0)) (sym (same-abs (slice_index_or g.first s (pos 0))
-    (each-at (IsWithin (pos 0) (pos (2 ^ 20))) (pos 0) g.first s game.first.each (subst (λ (n : ℕ). s < n) (sym game.first.long) l)).0))))

@@ -49,22 +49,7 @@ fn seed_product(game: &Game, action: u32) -> i128
     let mut entries = [0; MOST_STATES];
     let vector = &mut entries[..game.states() as usize];
     game.steady(action, vector);
-    weighted(game.first(), vector)
-}
-
-/// The sum of a vector's entries by weights.
-fn weighted(weights: &[i128], vector: &[i128]) -> i128
-    requires same { length weights.now ≡ length vector.now }
-    requires few { length weights.now ≤ 16 }
-    requires weights { AllByRecursion (λ w. unsigned_abs w ≤ 2 ^ 20) weights.now }
-    requires entries { AllByRecursion (λ x. unsigned_abs x ≤ 2 ^ 70) vector.now }
-    ensures { result ≡ total (λ s. slice_index_or weights.now s (pos 0) *ℤ slice_index_or vector.now s (pos 0)) (below (length weights.now)) }
-{
-    let mut sum = 0;
-    for s in 0..weights.len() {
-        sum += weights[s] * vector[s];
-    }
-    sum
+    game.first_product(vector)
 }
 
 /// What `floor` writes.
