@@ -2,7 +2,7 @@
 use Rattle.std.proofs.Common.{◌≡◌, ℕ, zero, suc, ◌*◌, ◌/◌, ◌^◌, ◌<◌, ◌≤◌, List, [], ◌∷◌, length, map, refl, ap, arith, sym, subst}
 use Rattle.std.specs.Prelude.{ℤ, pos, negsuc, ◌*ℤ◌, ◌≤ℤ◌, ◌<ℤ◌, unsigned_abs}
 use Rattle.std.specs.Int.{◌∣◌}
-use Rattle.std.specs.List.{All, AllByRecursion}
+use Rattle.std.specs.List.{AllByRecursion}
 use Rattle.std.proofs.lemmas.Int.{ints}
 use Rattle.std.proofs.lemmas.List.{length-map}
 use Rattle.std.proofs.lemmas.Nat.Gcd.{dvd-zero}
@@ -151,17 +151,3 @@ reduced-heavy mass lowest parts h s shared = record {
   light = λ few. absurd (omega (arith, ints));
   heavy = λ many. shared;
 }
-
--- a sum of weights of at most 2^20
-pub weights-sum : (xs : List ℤ) → AllByRecursion (IsWithin (pos 0) (pos (2 ^ 20))) xs → sum_of xs ≤ℤ pos (length xs * 2 ^ 20)
-weights-sum [] h = omega (arith, ints)
-weights-sum (x ∷ xs) h = let high = h.0.1 in omega (arith, ints, weights-sum xs h.1)
-
-pub all-from : (xs : List ℤ) → AllByRecursion IsNotNegative xs → All IsNotNegative xs
-all-from [] h k d l = absurd (omega arith)
-all-from (x ∷ xs) h zero d l = h.0
-all-from (x ∷ xs) h (suc k) d l = all-from xs h.1 k d (omega arith)
-
-pub all-to : (xs : List ℤ) → All IsNotNegative xs → AllByRecursion IsNotNegative xs
-all-to [] h = tt
-all-to (x ∷ xs) h = (h 0 (pos 0) (omega arith), all-to xs (λ k d l. h (suc k) d (omega arith)))

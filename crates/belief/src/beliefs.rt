@@ -3,10 +3,10 @@ ghost use Rattle.game_model.specs.Game.{AreCoprime, IsBelief, IsWithin};
 ghost use Rattle.scaled_num.specs.Sums.{sum_of};
 ghost use Rattle.std.specs.Bool.{IsTrue};
 ghost use Rattle.std.specs.List.{AllByRecursion};
-ghost use Rattle.std.specs.Prelude.{IfSome, IsSome, length, pos, ◌<◌, ◌^◌, ◌↔◌, ◌≡◌, ◌≤ℤ◌, ◌≤◌};
+ghost use Rattle.std.specs.Prelude.{IfSome, IsSome, length, pos, ◌<◌, ◌^◌, ◌↔◌, ◌≡◌, ◌≤◌};
 
-use crate::divisors::common_divisor;
 use game_model::{Game, MOST_BELIEF, MOST_STATES, law_game};
+use scaled_num::{common_divisor, sum};
 use std::marker::Model;
 
 /// A belief: coprime whole weights of the states, none negative, with a total of 1 to 2^20.
@@ -125,19 +125,6 @@ fn is_total(total: i128) -> bool
     ensures { IsTrue result ↔ IsWithin (pos 1) (pos (2 ^ 20)) total }
 {
     1 <= total && total <= MOST_BELIEF
-}
-
-/// The sum of weights that are not negative.
-pub fn sum(weights: &[i128]) -> i128
-    requires each { AllByRecursion (λ x. pos 0 ≤ℤ x) weights.now }
-    requires most { sum_of weights.now ≤ℤ pos (2 ^ 100) }
-    ensures { result ≡ sum_of weights.now }
-{
-    let mut sum = 0;
-    for weight in weights {
-        sum += *weight;
-    }
-    sum
 }
 
 /// Whether nothing but 1 divides all weights.

@@ -4,10 +4,10 @@ ghost use Rattle.std.specs.Int.{◌∣◌};
 ghost use Rattle.std.specs.List.{AllByRecursion};
 ghost use Rattle.std.specs.Prelude.{IfSome, IsNone, length, pos, unsigned_abs, ℕ, ◌<◌, ◌^◌, ◌↔◌, ◌≡◌, ◌≤ℤ◌, ◌≤◌};
 
-use crate::beliefs::{Belief, sum};
-use crate::divisors::{common_divisor, divide};
+use crate::beliefs::Belief;
+use crate::divisors::divide;
 use game_model::{MOST_BELIEF, MOST_STATES};
-use scaled_num::take_share;
+use scaled_num::{common_divisor, sum, take_share};
 
 /// The belief of a mass over 1 to 16 states: the mass divided by its greatest common divisor. Where the total is then
 /// above 2^20, the mass so divided is replaced by the shares of 2^20 by its weights, and divided by their greatest

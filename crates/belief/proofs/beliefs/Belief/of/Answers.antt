@@ -3,7 +3,7 @@ use Rattle.std.specs.Prelude.{pos, FitsSigned}
 use Rattle.std.specs.Int.{w128}
 use Rattle.std.proofs.lemmas.Int.{ints, to_z-of_z}
 use Rattle.game_model.specs.Game.{IsWithin}
-use Rattle.belief.proofs.Lowest.{weights-sum}
+use Rattle.scaled_num.proofs.Sums.{sum-most}
 use Rattle.belief.proofs.beliefs.Belief.of.Goals as goal
 
 pub of_parts-requires : goal.of_parts-requires
@@ -27,4 +27,4 @@ returns-then-are_coprime-clause-exactly c =
     (λ _. (record { long = refl; each = c.are_weights.ensures.0 c.if-are_weights.true; sums = subst (IsWithin (pos 1) (pos (2 ^ 20))) c.sum.ensures sums }, c.are_coprime.ensures.0 c.if-are_coprime.true), λ _. refl)
 
 pub sum-requires-clause-most : goal.sum-requires-clause-most
-sum-requires-clause-most c = omega (arith, ints, weights-sum c.args.parts.now (c.are_weights.ensures.0 c.if-are_weights.true))
+sum-requires-clause-most c = omega (arith, ints, sum-most (2 ^ 20) c.args.parts.now (c.are_weights.ensures.0 c.if-are_weights.true))
