@@ -18,15 +18,7 @@ use Rattle.alpha_set.specs.Nodes.{NodeData, NodeFits, Step, no_node, node_of, no
 use Rattle.alpha_set.specs.Members.{HoldsWorths, IsMember, IsTable, branch_of, brought, data_of, entry_at, most_nodes, node_data, table_length, table_place}
 use Rattle.alpha_set.specs.declared.nodes.Node.{Node as NodeParts}
 use Rattle.alpha_set.specs.declared.nodes.Step.{Step as StepParts}
-
-pub get-map : {X Y : Type 0} (f : X → Y) (xs : List X) (i : ℕ) (d : X) (z : Y) → i < length xs → get_or (map f xs) i z ≡ f (get_or xs i d)
-get-map f [] i d z l = absurd (omega arith)
-get-map f (x ∷ xs) zero d z l = refl
-get-map f (x ∷ xs) (suc i) d z l = get-map f xs i d z (omega arith)
-
-pub each-unmapped : {X Y : Type 0} (P : Y → Type 0) (f : X → Y) (xs : List X) → AllByRecursion P (map f xs) → AllByRecursion (λ x. P (f x)) xs
-each-unmapped P f [] h = tt
-each-unmapped P f (x ∷ xs) h = (h.0, each-unmapped P f xs h.1)
+use Rattle.scaled_num.proofs.Each.{each-of-map, get-map}
 
 each-take : {X : Type 0} (P : X → Type 0) (i : ℕ) (xs : List X) → AllByRecursion P xs → AllByRecursion P (take i xs)
 each-take P zero xs h = tt
@@ -117,10 +109,10 @@ pub first-small : (g : GameData) (nodes : List NodeParts) (node : NodeParts) →
 first-small g nodes node h i a o t la lo lt =
     let steps : List StepParts = node.next.items in
     let positive : AllByRecursion (λ (step : StepParts). pos 1 ≤ℤ step.weight) steps =
-    each-from (λ (step : StepParts). IsBranch (numbers g) most_nodes (pos mix_total) (branch_of step)) (λ (step : StepParts). pos 1 ≤ℤ step.weight) steps (λ step b. b.weight.0) (each-unmapped (IsBranch (numbers g) most_nodes (pos mix_total)) branch_of steps h.fits.next.each) in
+    each-from (λ (step : StepParts). IsBranch (numbers g) most_nodes (pos mix_total) (branch_of step)) (λ (step : StepParts). pos 1 ≤ℤ step.weight) steps (λ step b. b.weight.0) (each-of-map (IsBranch (numbers g) most_nodes (pos mix_total)) branch_of steps h.fits.next.each) in
     let small : AllByRecursion (λ (step : StepParts). unsigned_abs (step_worth nodes a o t step) ≤ step_weight a o step * span g) steps =
     each-from (λ (step : StepParts). step.k < length nodes) (λ (step : StepParts). unsigned_abs (step_worth nodes a o t step) ≤ step_weight a o step * span g) steps
-    (λ step l. step-small nodes a o t (span g) step (entry-small g nodes step.k t (named g nodes h.each step.k l) lt)) (each-unmapped (λ (b : Branch). b.member < length nodes) branch_of steps h.named) in
+    (λ step l. step-small nodes a o t (span g) step (entry-small g nodes step.k t (named g nodes h.each step.k l) lt)) (each-of-map (λ (b : Branch). b.member < length nodes) branch_of steps h.named) in
     let sum : pos (sum_by (step_weight a o) steps) ≡ get_or node.mix.items a (pos 0) = all-weights a o steps positive ∙ h.fits.sums a o la lo in
     let weight = each-at (IsWithin (pos 0) (pos mix_total)) (pos 0) node.mix.items a h.fits.mix.each (subst (λ (n : ℕ). a < n) (sym h.fits.mix.long) la) in
     let high : pos (sum_by (step_weight a o) steps) ≤ℤ pos mix_total = subst (λ (z : ℤ). z ≤ℤ pos mix_total) (sym sum) weight.1 in
@@ -150,11 +142,11 @@ pub record NextStep (g : GameData) (nodes : List NodeParts) (steps : List StepPa
   pub small : (t : ℕ) → t < length vector → unsigned_abs (entry_at table (get_or steps i no_step).a (get_or steps i no_step).o t) ≤ 2 ^ 82
 
 named-step : (g : GameData) (nodes : List NodeParts) (node : NodeParts) → IsMember g nodes node → (i : ℕ) → i < length node.next.items → (get_or node.next.items i no_step).k < length nodes
-named-step g nodes node h i l = each-at (λ (step : StepParts). step.k < length nodes) no_step node.next.items i (each-unmapped (λ (b : Branch). b.member < length nodes) branch_of node.next.items h.named) l
+named-step g nodes node h i l = each-at (λ (step : StepParts). step.k < length nodes) no_step node.next.items i (each-of-map (λ (b : Branch). b.member < length nodes) branch_of node.next.items h.named) l
 
 step-in : (g : GameData) (nodes : List NodeParts) (node : NodeParts) → IsMember g nodes node → (i : ℕ) → i < length node.next.items → IsBranch (numbers g) most_nodes (pos mix_total) (branch_of (get_or node.next.items i no_step))
 step-in g nodes node h i l =
-    each-at (λ (step : StepParts). IsBranch (numbers g) most_nodes (pos mix_total) (branch_of step)) no_step node.next.items i (each-unmapped (IsBranch (numbers g) most_nodes (pos mix_total)) branch_of node.next.items h.fits.next.each) l
+    each-at (λ (step : StepParts). IsBranch (numbers g) most_nodes (pos mix_total) (branch_of step)) no_step node.next.items i (each-of-map (IsBranch (numbers g) most_nodes (pos mix_total)) branch_of node.next.items h.fits.next.each) l
 
 at-step : (g : GameData) → IsGame g → (nodes : List NodeParts) (node : NodeParts) → IsMember g nodes node → (i : ℕ) (table : List ℤ) → Filled g nodes node.next.items i table → i < length node.next.items →
     NextStep g nodes node.next.items i (vector_of nodes (get_or node.next.items i no_step).k) table
@@ -229,7 +221,7 @@ filled-table g right nodes node h i table filled past =
     let all : take i node.next.items ≡ node.next.items = take_all i node.next.items past in
     let positive : AllByRecursion (λ (step : StepParts). pos 1 ≤ℤ step.weight) node.next.items =
     each-from (λ (step : StepParts). IsBranch (numbers g) most_nodes (pos mix_total) (branch_of step)) (λ (step : StepParts). pos 1 ≤ℤ step.weight) node.next.items (λ step b. b.weight.0)
-    (each-unmapped (IsBranch (numbers g) most_nodes (pos mix_total)) branch_of node.next.items h.fits.next.each) in (
+    (each-of-map (IsBranch (numbers g) most_nodes (pos mix_total)) branch_of node.next.items h.fits.next.each) in (
       record {
         long = filled.long;
         small = λ a o t la lo lt. subst (λ (z : ℤ). unsigned_abs z ≤ mix_total * span g) (sym (filled.entries a o t (omega arith) lt)) (first-small g nodes node h i a o t la lo lt);

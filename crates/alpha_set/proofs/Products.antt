@@ -9,8 +9,8 @@ use Rattle.std.proofs.lemmas.List.{get_or-map, length-append, length-map, take_m
 use Rattle.std.proofs.lemmas.List.Sums.{sum_by-cons, sum_by_more, sum_by_more_le}
 use Rattle.scaled_num.specs.Share.{at}
 use Rattle.scaled_num.specs.Sums.{sum_of, total}
-use Rattle.scaled_num.proofs.Products.{sums}
-use Rattle.scaled_num.proofs.Sums.{each-append, each-at, total-append, total-places, total-same, each}
+use Rattle.scaled_num.proofs.Products.{sums, abs-add}
+use Rattle.scaled_num.proofs.Sums.{each-append, each-at, total-append, total-places, total-same, each, total-below-more}
 use Rattle.game_model.specs.Game.{GameData, IsWithin, span}
 use Rattle.game_model.proofs.Pay.{each-from}
 use Rattle.game_model.proofs.Sizes.{total-more}
@@ -20,7 +20,6 @@ use Rattle.alpha_set.specs.Products.{CanMultiply, IsFirstBest, IsGathered, node_
 use Rattle.alpha_set.specs.Worth.{AreWeighed, IsWorth}
 use Rattle.alpha_set.specs.declared.nodes.Node.{Node as NodeParts}
 use Rattle.alpha_set.specs.declared.worth.Portion.{Portion}
-use Rattle.alpha_set.proofs.Totals.{abs-add, total-below-more}
 use Rattle.alpha_set.proofs.Wide.{wide}
 
 abbrev pub portion : ℕ → ℤ → Portion

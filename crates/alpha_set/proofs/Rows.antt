@@ -20,7 +20,8 @@ use Rattle.game_model.proofs.Rows.{row-landings}
 use Rattle.game_model.proofs.Sizes.{total-more}
 use Rattle.game_model.proofs.Worth.{span-small}
 use Rattle.alpha_set.specs.Members.{IsTable, entry_at, table_place}
-use Rattle.alpha_set.proofs.Totals.{abs-add, abs-within}
+use Rattle.alpha_set.proofs.Totals.{abs-within}
+use Rattle.scaled_num.proofs.Products.{abs-add}
 
 abbrev pub none : Landing
 none = landing_of 0 0 (pos 0)

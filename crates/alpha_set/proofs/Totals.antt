@@ -6,29 +6,9 @@ use Rattle.std.specs.List.{range_with_len}
 use Rattle.std.proofs.lemmas.Int.{ints, fits_signed_from_abs}
 use Rattle.std.proofs.lemmas.Nat.{mul-le}
 use Rattle.scaled_num.specs.Sums.{below, total}
-use Rattle.scaled_num.proofs.Products.{sums}
+use Rattle.scaled_num.proofs.Products.{sums, abs-add}
 use Rattle.game_model.specs.Game.{IsWithin}
-
-total-range-more : (f : ℕ → ℤ) (a n : ℕ) → total f (range_with_len a (suc n)) ≡ total f (range_with_len a n) +ℤ f (a + n)
-total-range-more f a zero = ap (λ (k : ℕ). f k +ℤ pos 0) (same a) ∙ omega (arith, sums)
-  where
-    same : (a : ℕ) → a ≡ a + 0
-    same a = omega arith
-total-range-more f a (suc n) =
-    ap (λ (z : ℤ). f a +ℤ z) (total-range-more f (a + 1) n ∙ ap (λ (k : ℕ). total f (range_with_len (a + 1) n) +ℤ f k) (same a n))
-    ∙ omega (arith, sums)
-  where
-    same : (a n : ℕ) → a + 1 + n ≡ a + suc n
-    same a n = omega arith
-
-pub total-below-more : (f : ℕ → ℤ) (n : ℕ) → total f (below (n + 1)) ≡ total f (below n) +ℤ f n
-total-below-more f n = rw (add-one n) (total-range-more f 0 n ∙ ap (λ (k : ℕ). total f (below n) +ℤ f k) (same n))
-  where
-    same : (n : ℕ) → 0 + n ≡ n
-    same n = omega arith
-
-pub abs-add : (a b : ℤ) → unsigned_abs (a +ℤ b) ≤ unsigned_abs a + unsigned_abs b
-abs-add a b = omega (arith, ints)
+use Rattle.scaled_num.proofs.Sums.{total-below-more}
 
 pub abs-within : (x : ℤ) (n : ℕ) → IsWithin (pos 1) (pos n) x → unsigned_abs x ≤ n
 abs-within x n h = let low = h.0 in let high = h.1 in omega (arith, ints)

@@ -8,10 +8,10 @@ use Rattle.std.proofs.lemmas.Int.{ints, fits_signed_from_abs, unsigned_abs-mul}
 use Rattle.std.proofs.lemmas.Nat.{div_below, mul-le}
 use Rattle.game_model.specs.Game.{GameData, IsGame, IsNarrow, IsRewardInRange, greatest_reward, span, unit}
 use Rattle.game_model.specs.Branches.{mix_total}
-use Rattle.game_model.proofs.Ceil.{magnitude-is}
-use Rattle.game_model.proofs.Worth.{divisor-is, span-small}
+use Rattle.game_model.proofs.Worth.{divisor-is, span-small, ceil-small}
 use Rattle.alpha_set.proofs.Rows.{most}
-use Rattle.alpha_set.proofs.Totals.{abs-add, abs-within}
+use Rattle.alpha_set.proofs.Totals.{abs-within}
+use Rattle.scaled_num.proofs.Products.{abs-add, magnitude-is}
 
 abbrev whole : GameData → ℕ
 whole g = unsigned_abs g.shape.row_total
@@ -52,9 +52,6 @@ fold-narrow w (r ∷ rs) n l h = fold-narrow w rs (max n (unsigned_abs r)) (both
 each-narrow : (g : GameData) → IsGame g → (rewards : List ℤ) → AllByRecursion (λ r. IsRewardInRange r × IsNarrow g.shape r) rewards → AllByRecursion (λ r. whole g * under g * under g * max 1 (unsigned_abs r) ≤ 2 ^ 72) rewards
 each-narrow g h [] all = tt
 each-narrow g h (r ∷ rs) all = (narrow-abs g h r all.0.1, each-narrow g h rs all.1)
-
-ceil-small : (n room : ℕ) → 1 ≤ room → (n + room - 1) / room ≤ n
-ceil-small n room some = let below = div_below (n + room - 1) room (suc n) some (omega (arith, mul-le-mul_left n some)) in omega arith
 
 -- the row total times the span times the discount's denominator
 pub wide : (g : GameData) → IsGame g → whole g * span g * under g ≤ 2 ^ 88

@@ -16,7 +16,7 @@ use Rattle.game_model.proofs.SeedVectors.{seeds-stand}
 use Rattle.alpha_set.specs.Nodes.{Node, NodeFits, NodeStands, Step, node_of, step_of, steps_worth}
 use Rattle.backup.specs.Seeds.{always_node}
 use Rattle.backup.proofs.Placed.{placed-at, placed-long, placed-sum, placed-within, turn}
-use Rattle.backup.proofs.Places.{each-places}
+use Rattle.scaled_num.proofs.Each.{each-by-place}
 
 -- ---- the steps of the node
 abbrev pub steps_from : ℕ → ℕ → ℕ → List Branch
@@ -84,7 +84,7 @@ always-fits g h a nodes vector la ln long seed =
     let O = g.shape.observations in
     record {
       long = long;
-      entries = each-places (IsWithin (neg_ℤ (pos (span g))) (pos (span g))) (pos 0) vector (λ s l.
+      entries = each-by-place (IsWithin (neg_ℤ (pos (span g))) (pos (span g))) (pos 0) vector (λ s l.
           let inside = (seeds-stand (numbers g) (span g) a (at vector) (keeps-span g h) la seed).1 s (subst (λ (n : ℕ). s < n) long l) in (inside.0, inside.1));
       mix = record { long = placed-long A a mix_total; each = placed-within A a mix_total; sums = placed-sum A a mix_total la };
       next = record {

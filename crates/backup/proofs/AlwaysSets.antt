@@ -6,11 +6,11 @@ use Rattle.game_model.specs.Game.{GameData, IsGame, numbers}
 use Rattle.alpha_set.specs.Nodes.{NodeData, NodeFits, NodeStands, no_node, node_of, nodes_of}
 use Rattle.backup.specs.Seeds.{AreSeedNodes}
 use Rattle.backup.proofs.AlwaysNodes.{always-fits, always-stands}
-use Rattle.backup.proofs.Places.{each-places}
+use Rattle.scaled_num.proofs.Each.{each-by-place}
 
 pub seed-nodes-fit : (g : GameData) → IsGame g → (nodes : List NodeData) → AreSeedNodes g nodes → AllByRecursion (NodeFits g (length nodes)) nodes
 seed-nodes-fit g h nodes seeds =
-    each-places (NodeFits g (length nodes)) no_node nodes (λ a l.
+    each-by-place (NodeFits g (length nodes)) no_node nodes (λ a l.
     let la : a < g.shape.own_actions = subst (λ (n : ℕ). a < n) seeds.count l in
     let node = seeds.each a la in
     subst (NodeFits g (length nodes)) (sym node.same) (always-fits g h a (length nodes) node.vector la l node.long node.seed))

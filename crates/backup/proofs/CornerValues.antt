@@ -13,22 +13,7 @@ use Rattle.belief.specs.Mixes.{MixesData}
 use Rattle.point_set.specs.Points.{Point, ValueHolds, mass, point_of, point_worth, shares_at}
 use Rattle.backup.specs.Seeds.{corner_split, mass_at}
 use Rattle.backup.proofs.CornerSplits.{BeginWithCorners, counted-corners}
-
--- the sums over states and actions trade places with those over observations and next states
-behind-two : {S C O T : Type 0} (f : S → C → O → T → ℤ) (ss : List S) (cs : List C) (os : List O) (ts : List T) →
-    total (λ s. total (λ c. total (λ o. total (λ t. f s c o t) ts) os) cs) ss ≡ total (λ o. total (λ t. total (λ s. total (λ c. f s c o t) cs) ss) ts) os
-behind-two f ss cs os ts =
-    total-same _ _ ss (each (λ s.
-    total-swap (λ c o. total (λ t. f s c o t) ts) cs os
-    ∙ total-same _ _ os (each (λ o. total-swap (λ c t. f s c o t) cs ts) os)) ss)
-    ∙ total-swap (λ s o. total (λ t. total (λ c. f s c o t) cs) ts) ss os
-    ∙ total-same _ _ os (each (λ o. total-swap (λ s t. total (λ c. f s c o t) cs) ss ts) os)
-
-mass-total : (g : Numbers) (point : Point) (a o t : ℕ) (y : ℤ) →
-    total (λ s. total (λ c. pos (point.belief s * point.mixes s c * g.weight s a c o t) *ℤ y) (below g.informed_actions)) (below g.states) ≡ pos (mass g point a o t) *ℤ y
-mass-total g point a o t y =
-    total-below g.states _ _ (λ s ls. total-weights (λ c. point.belief s * point.mixes s c * g.weight s a c o t) y (below g.informed_actions))
-    ∙ total-weights (λ s. sum_by (λ c. point.belief s * point.mixes s c * g.weight s a c o t) (below g.informed_actions)) y (below g.states)
+use Rattle.point_set.proofs.Masses.{behind-two, mass-total}
 
 -- the masses times what their next states are worth, by the states and actions that they come from
 later-is : (g : Numbers) (point : Point) (a : ℕ) (y : ℕ → ℤ) →

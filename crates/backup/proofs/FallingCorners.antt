@@ -4,7 +4,7 @@ use Rattle.std.specs.Int.{int_max}
 use Rattle.std.specs.Prelude.{ℤ, pos, negsuc, neg_ℤ, ◌+ℤ◌, ◌-ℤ◌, ◌*ℤ◌, ◌≤ℤ◌, ◌<ℤ◌}
 use Rattle.std.proofs.lemmas.Int.{ints}
 use Rattle.std.proofs.Math.Nat.{mul-le-mul_left}
-use Rattle.scaled_num.proofs.Products.{add-mulℤ, lt-mulℤ_cancel, mulℤ_comm, sums}
+use Rattle.scaled_num.proofs.Products.{add-mulℤ, lt-mulℤ_cancel, mulℤ_comm, sums, mul-neg, neg-mul}
 use Rattle.game_model.specs.Numbers.{Numbers}
 use Rattle.game_model.specs.Seeds.{KeepsSpan, stage_worth}
 use Rattle.game_model.proofs.SeedVectors.{stage-within, worth-le}
@@ -48,13 +48,6 @@ le-cancel k x y some h =
 pub record IsCeil (w : ℤ) (k : ℕ) (x : ℤ) : Type 0 where
   pub high : w ≤ℤ (x *ℤ pos k)
   pub low : ((x -ℤ pos 1) *ℤ pos k) <ℤ w
-
-mul-neg : (k x : ℕ) → pos k *ℤ neg_ℤ (pos x) ≡ neg_ℤ (pos (k * x))
-mul-neg k zero = omega (arith, ints)
-mul-neg k (suc x) = omega (arith, ints)
-
-pub neg-mul : (x k : ℕ) → neg_ℤ (pos x) *ℤ pos k ≡ neg_ℤ (pos (x * k))
-neg-mul x k = mulℤ_comm (neg_ℤ (pos x)) (pos k) ∙ mul-neg k x ∙ ap (λ z. neg_ℤ (pos z)) (omega arith)
 
 pub ceil-of : (w : ℤ) (k : ℕ) → 1 ≤ k → (x : ℤ) × IsCeil w k x
 ceil-of (pos zero) (suc k) some = (pos 0, record { high = omega (arith, ints); low = omega (arith, ints) })

@@ -4,6 +4,7 @@ use Rattle.std.specs.Prelude.{ℤ, ◌≤ℤ◌, unsigned_abs}
 use Rattle.std.specs.Int.{int_max}
 use Rattle.std.proofs.lemmas.Int.{ints, clamps, by_lt_z}
 use Rattle.backup.specs.Rounds.{IsGreatestOf}
+use Rattle.game_model.proofs.Least.{last-or}
 
 same : (x : ℤ) → x ≤ℤ x
 same x = omega (arith, ints)
@@ -22,10 +23,6 @@ greatest-one f x e = record {
 
 max-cases : (x y : ℤ) → ((int_max x y ≡ x) × (y ≤ℤ x)) ⊎ ((int_max x y ≡ y) × (x ≤ℤ y))
 max-cases x y = by_lt_z x y (λ h. inr (omega (arith, ints, clamps), omega (arith, ints))) (λ h. inl (omega (arith, ints, clamps), h))
-
--- the last of the first n + 1 numbers, or one of the first n
-pub last-or : (k n : ℕ) → k < n + 1 → (k < n) ⊎ (k ≡ n)
-last-or k n l = search arith
 
 greatest-keep : (f : ℕ → ℤ) (n : ℕ) (x : ℤ) → IsGreatestOf f n x → f n ≤ℤ x → IsGreatestOf f (n + 1) x
 greatest-keep f n x h l = record {

@@ -6,14 +6,7 @@ use Rattle.std.proofs.Math.Seq.{get_or-append_seam}
 use Rattle.std.specs.List.{range_with_len}
 use Rattle.scaled_num.specs.Sums.{below}
 use Rattle.std.specs.List.{AllByRecursion}
-
-pub each-places : {X : Type 0} (P : X → Type 0) (d : X) (xs : List X) → ((i : ℕ) → i < length xs → P (get_or xs i d)) → AllByRecursion P xs
-each-places P d [] h = tt
-each-places P d (x ∷ xs) h = (h 0 (omega arith), each-places P d xs (λ i l. h (suc i) (omega arith)))
-
--- the last of the first n + 1 numbers, or one of the first n
-last-or : (k n : ℕ) → k < n + 1 → (k < n) ⊎ (k ≡ n)
-last-or k n l = search arith
+use Rattle.game_model.proofs.Least.{last-or}
 
 -- what holds of the first entries of two lists still holds after the next ones are written
 pub written-two : (P : ℕ → ℕ → ℤ → Type 0) (xs : List ℕ) (ys : List ℤ) (s : ℕ) (x : ℕ) (y : ℤ) → s < length xs → s < length ys →

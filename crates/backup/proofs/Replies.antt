@@ -4,12 +4,12 @@ use Rattle.std.specs.Prelude.{ℤ, pos, neg_ℤ, ◌+ℤ◌, ◌-ℤ◌, ◌*ℤ
 use Rattle.std.proofs.lemmas.Int.{ints}
 use Rattle.std.specs.Int.Signed.{lt_z, lt_z_no, lt_z_yes}
 use Rattle.std.proofs.Math.Dec.{T}
-use Rattle.scaled_num.proofs.Products.{add-mulℤ, sums}
+use Rattle.scaled_num.proofs.Products.{add-mulℤ, sums, neg-mul}
 use Rattle.game_model.specs.Numbers.{Numbers}
 use Rattle.backup.specs.Rounds.{IsReplyAmong}
 use Rattle.backup.specs.Seeds.{IsGreatestCeil, IsReply}
-use Rattle.backup.proofs.FallingCorners.{IsCeil, ceil-le, ceils-same, le-cancel, neg-mul}
-use Rattle.backup.proofs.Greatest.{last-or}
+use Rattle.backup.proofs.FallingCorners.{IsCeil, ceil-le, ceils-same, le-cancel}
+use Rattle.game_model.proofs.Least.{last-or}
 
 through : (x y z : ℤ) → x ≤ℤ y → y ≤ℤ z → x ≤ℤ z
 through x y z h k = omega (arith, ints)

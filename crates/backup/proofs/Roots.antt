@@ -3,7 +3,7 @@ use Rattle.std.proofs.Common.{◌≡◌, ℕ, ◌*◌, ◌<◌, ◌≤◌, ap, a
 use Rattle.std.specs.Prelude.{ℤ, pos, neg_ℤ, ◌*ℤ◌, ◌≤ℤ◌, sum_by}
 use Rattle.std.proofs.lemmas.Int.{ints}
 use Rattle.scaled_num.specs.Sums.{below, total}
-use Rattle.scaled_num.proofs.Products.{le-mulℤ, products, sums}
+use Rattle.scaled_num.proofs.Products.{le-mulℤ, products, sums, neg-mul}
 use Rattle.scaled_num.proofs.Sums.{total-below, total-below-le, total-scale, total-weights}
 use Rattle.game_model.specs.Branches.{mix_total}
 use Rattle.game_model.specs.Numbers.{Numbers}
@@ -11,7 +11,7 @@ use Rattle.game_model.specs.Seeds.{KeepsSpan, stage_worth}
 use Rattle.game_model.proofs.SeedVectors.{stage-within, worth-le}
 use Rattle.point_set.specs.Points.{Point, point_worth}
 use Rattle.backup.specs.Seeds.{IsEvaluation}
-use Rattle.backup.proofs.FallingCorners.{KeepsCorners, ceil-le, divisor-some, le-cancel, neg-mul}
+use Rattle.backup.proofs.FallingCorners.{KeepsCorners, ceil-le, divisor-some, le-cancel}
 
 through : (x y z : ℤ) → x ≤ℤ y → y ≤ℤ z → x ≤ℤ z
 through x y z h k = omega (arith, ints)

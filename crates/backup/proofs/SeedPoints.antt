@@ -26,11 +26,12 @@ use Rattle.backup.specs.Shares.{AreCorners, AreSeeds, IsSplitAmong}
 use Rattle.backup.proofs.Sure.{total-more, total-one}
 use Rattle.backup.proofs.FallingCorners.{KeepsCorners, corner-holds, values-within}
 use Rattle.backup.proofs.Placed.{placed-at, placed-long, placed-sum, pure-right, pure-weight}
-use Rattle.backup.proofs.Places.{each-places}
 use Rattle.backup.proofs.CornerSplits.{BeginWithCorners, corner-splits}
 use Rattle.backup.proofs.CornerValues.{IsSureOf, corner-value, corner-worth}
 use Rattle.backup.proofs.CornerFits.{split-fits}
 use Rattle.backup.proofs.Roots.{AreFull, evaluation-within}
+use Rattle.scaled_num.proofs.Each.{each-by-place}
+use Rattle.game_model.proofs.Least.{last-or}
 
 pub keeps-corners : (g : GameData) → IsGame g → KeepsCorners (numbers g) (span g)
 keeps-corners g h = record { keeps = keeps-span g h; own = h.shape.own_actions.0 }
@@ -148,7 +149,7 @@ corners-stand g values replies h =
     let xs = corners_of g values replies in
     let count : length xs ≡ g.shape.states = corners-count g values replies in
     record {
-      fit = each-places (PointFits g (length xs)) no_point xs (λ s l.
+      fit = each-by-place (PointFits g (length xs)) no_point xs (λ s l.
           let inside : s < g.shape.states = subst (λ (n : ℕ). s < n) count l in
           subst (PointFits g (length xs)) (sym (corner-at g values replies s inside)) (corner-fits g values replies h (length xs) s (omega arith) inside));
       stand = λ s l.
@@ -156,9 +157,6 @@ corners-stand g values replies h =
           subst (λ (p : PointData). PointStands (numbers g) (points_of xs) (point_of p)) (sym (corner-at g values replies s inside))
           (corner-stands g values replies h (points_of xs) (corners-begin g values replies) s inside);
     }
-
-last-or : (k n : ℕ) → k < n + 1 → (k < n) ⊎ (k ≡ n)
-last-or k n l = search arith
 
 pub with-root-stand : (g : GameData) (values : List ℤ) (replies : List ℕ) → AreSettled g values replies → (value : ℤ) →
     IsEvaluation (numbers g) (points_of (corners_of g values replies)) (point_of (root_point g value replies)) value →
@@ -172,7 +170,7 @@ with-root-stand g values replies h value is =
     let first = λ (s : ℕ) (l : s < length xs). get_or_append_left xs (root ∷ []) no_point s l ∙ corner-at g values replies s (subst (λ (n : ℕ). s < n) count l) in
     let last : get_or all (length xs) no_point ≡ root = get_or-append_seam xs root [] no_point in
     record {
-      fit = each-places (PointFits g (length all)) no_point all (λ s l.
+      fit = each-by-place (PointFits g (length all)) no_point all (λ s l.
           elim (last-or s (length xs) (subst (λ (n : ℕ). s < n) more l)) [
             | inl k ↦ subst (PointFits g (length all)) (sym (first s k)) (corner-fits g values replies h (length all) s (omega arith) (subst (λ (n : ℕ). s < n) count k))
             | inr e ↦ subst (λ (i : ℕ). PointFits g (length all) (get_or all i no_point)) (sym e) (subst (PointFits g (length all)) (sym last)

@@ -14,8 +14,8 @@ use Rattle.game_model.proofs.Games.{row-in, row-weights}
 use Rattle.game_model.proofs.Pay.{each-from}
 use Rattle.game_model.specs.Build.{landing_of}
 use Rattle.game_model.specs.declared.parts.Landing.{Landing}
-use Rattle.game_model.proofs.Ceil.{magnitude-is}
 use Rattle.belief.specs.Masses.{AreBelow, AreLandings, IsSeen, landed}
+use Rattle.scaled_num.proofs.Products.{magnitude-is}
 
 abbrev none : Landing
 none = landing_of 0 0 (pos 0)

@@ -23,7 +23,7 @@ corner-weights zero s = tt
 corner-weights (suc n) zero = ((omega (arith, ints), omega (arith, ints)), zeros-weights n)
 corner-weights (suc n) (suc s) = ((omega (arith, ints), omega (arith, ints)), corner-weights n s)
 
-corner-sum : (n s : ℕ) → s < n → sum_of (corner_of n s) ≡ pos 1
+pub corner-sum : (n s : ℕ) → s < n → sum_of (corner_of n s) ≡ pos 1
 corner-sum zero s l = absurd (omega arith)
 corner-sum (suc n) zero l = omega (arith, ints, sum-zeros n)
 corner-sum (suc n) (suc s) l = omega (arith, ints, corner-sum n s (omega arith))

@@ -3,8 +3,8 @@ use Rattle.std.proofs.Common.{◌≡◌, ℕ, zero, suc, ◌+◌, ◌<◌, ◌�
 use Rattle.std.specs.List.{AllByRecursion, range_with_len}
 use Rattle.scaled_num.specs.Sums.{below}
 use Rattle.scaled_num.proofs.Sums.{below-each, each-append, each-flat_map, each-map}
-use Rattle.controller.proofs.Places.{each-back}
 use Rattle.cert_check.specs.Verdicts.{FirstIn}
+use Rattle.scaled_num.proofs.Each.{each-back}
 
 pub first-left : {X : Type 0} (P : X → Type 0) (xs ys : List X) (x : X) → FirstIn P xs x → FirstIn P (xs ++ ys) x
 first-left P xs ys x f =

@@ -6,14 +6,12 @@ use Rattle.std.specs.Int.{w128}
 use Rattle.std.proofs.lemmas.Int.{ints, fits_signed_from_abs, unsigned_abs-mul}
 use Rattle.std.proofs.lemmas.Nat.{mul-le}
 use Rattle.scaled_num.specs.Sums.{below, sum_of, total}
-use Rattle.scaled_num.proofs.Products.{add-mulℤ, le-mulℤ, lt-mulℤ_cancel, mul-addℤ, mulℤ_assoc, mulℤ_comm}
+use Rattle.scaled_num.proofs.Products.{add-mulℤ, le-mulℤ, lt-mulℤ_cancel, mul-addℤ, mulℤ_assoc, mulℤ_comm, abs-add, magnitude-is}
 use Rattle.scaled_num.proofs.Sums.{each-at, total-below, total-places, total-pos}
 use Rattle.game_model.specs.Game.{GameData, IsGame, IsWithin, first_at, span}
-use Rattle.game_model.proofs.Ceil.{magnitude-is}
 use Rattle.game_model.proofs.Pay.{each-from}
 use Rattle.game_model.proofs.Worth.{span-small}
 use Rattle.alpha_set.specs.Nodes.{NodeData, NodeFits, no_node, nodes_of}
-use Rattle.alpha_set.proofs.Totals.{abs-add}
 use Rattle.point_set.specs.Points.{no_point, points_of}
 use Rattle.controller.specs.Certificates.{CertificateData, CertificateFits, Holds, BoundAt, first_total, start_product}
 use Rattle.cert_check.proofs.Fits.{node-in, point-in}

@@ -10,14 +10,6 @@ use Rattle.game_model.specs.Branches.{AreRising, Branch, IsBranchBefore, branche
 use Rattle.game_model.specs.Game.{IsWithin}
 use Rattle.game_model.proofs.Sizes.{total-more}
 
-pub each-mapped : {X Y : Type 0} (P : Y → Type 0) (f : X → Y) (xs : List X) → AllByRecursion (λ x. P (f x)) xs → AllByRecursion P (map f xs)
-each-mapped P f [] h = tt
-each-mapped P f (x ∷ xs) h = (h.0, each-mapped P f xs h.1)
-
-pub each-unmapped : {X Y : Type 0} (P : Y → Type 0) (f : X → Y) (xs : List X) → AllByRecursion P (map f xs) → AllByRecursion (λ x. P (f x)) xs
-each-unmapped P f [] h = tt
-each-unmapped P f (x ∷ xs) h = (h.0, each-unmapped P f xs h.1)
-
 -- branches that rise come each before the next
 pub rising-from : {X : Type 0} (f : X → Branch) (d : X) (xs : List X) → ((k : ℕ) → suc k < length xs → IsBranchBefore (f (get_or xs k d)) (f (get_or xs (suc k) d))) → AreRising (map f xs)
 rising-from f d [] h = tt

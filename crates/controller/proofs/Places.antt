@@ -6,26 +6,7 @@ use Rattle.scaled_num.specs.Sums.{below}
 use Rattle.scaled_num.proofs.Sums.{each-at}
 use Rattle.controller.specs.Certificates.{CertificateData, CornerAt, BoundAt, Holds, NodeAt, OutcomeAt, Place, SplitAt, StartAt, ValueAt, corner_places, node_places, places, point_places, split_places, value_places}
 use Rattle.game_model.specs.Game.{GameData}
-
-pub each-front : {X : Type 0} (P : X → Type 0) (xs ys : List X) → AllByRecursion P (xs ++ ys) → AllByRecursion P xs
-each-front P [] ys h = tt
-each-front P (x ∷ xs) ys h = (h.0, each-front P xs ys h.1)
-
-pub each-back : {X : Type 0} (P : X → Type 0) (xs ys : List X) → AllByRecursion P (xs ++ ys) → AllByRecursion P ys
-each-back P [] ys h = h
-each-back P (x ∷ xs) ys h = each-back P xs ys h.1
-
-pub each-of-map : {X Y : Type 0} (P : Y → Type 0) (f : X → Y) (xs : List X) → AllByRecursion P (map f xs) → AllByRecursion (λ x. P (f x)) xs
-each-of-map P f [] h = tt
-each-of-map P f (x ∷ xs) h = (h.0, each-of-map P f xs h.1)
-
-pub each-of-flat_map : {X Y : Type 0} (P : Y → Type 0) (f : X → List Y) (xs : List X) → AllByRecursion P (flat_map f xs) → AllByRecursion (λ x. AllByRecursion P (f x)) xs
-each-of-flat_map P f [] h = tt
-each-of-flat_map P f (x ∷ xs) h = (each-front P (f x) (flat_map f xs) h, each-of-flat_map P f xs (each-back P (f x) (flat_map f xs) h))
-
-pub at-below : (P : ℕ → Type 0) (n i : ℕ) → AllByRecursion P (below n) → i < n → P i
-at-below P n i h l =
-    subst P (get_or-range_with_len 0 n i 0 l ∙ omega arith) (each-at P 0 (below n) i h (subst (λ (m : ℕ). i < m) (sym (length-range_with_len 0 n)) l))
+use Rattle.scaled_num.proofs.Each.{each-front, each-back, each-of-map, each-of-flat_map, at-below}
 
 -- the rule of each place of a certificate that stands
 pub record Rules (g : GameData) (k : CertificateData) : Type 0 where

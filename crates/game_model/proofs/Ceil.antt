@@ -7,6 +7,7 @@ use Rattle.std.specs.Prelude.{ℤ, pos, negsuc, unsigned_abs, FitsSigned, ◌-�
 use Rattle.std.specs.Int.{w128}
 use Rattle.std.proofs.lemmas.Int.{ints, fits_signed_from_abs, unsigned_abs-mul}
 use Rattle.std.proofs.lemmas.Nat.{le-div, div_below, mul-le}
+use Rattle.scaled_num.proofs.Products.{magnitude-is}
 
 pub ceil-is : (w : ℤ) (n room : ℕ) → 1 ≤ room → pos n ≤ℤ (w *ℤ pos room) → (w *ℤ pos room) <ℤ (pos n +ℤ pos room) → w ≡ pos ((n + room - 1) / room)
 ceil-is (pos k) n room some high low =
@@ -15,11 +16,6 @@ ceil-is (pos k) n room some high low =
     ap pos (omega arith)
 ceil-is (negsuc k) n zero some high low = absurd (omega arith)
 ceil-is (negsuc k) n (suc r) some high low = absurd (omega (arith, ints))
-
--- a number that is not negative is its magnitude
-pub magnitude-is : (x : ℤ) → pos 0 ≤ℤ x → x ≡ pos (unsigned_abs x)
-magnitude-is (pos n) h = refl
-magnitude-is (negsuc n) h = absurd (omega (arith, ints))
 
 pub span-is : (shape : Shape) (most w : ℤ) → IsShape shape → pos 0 ≤ℤ most →
     ((pos 65536 *ℤ most) *ℤ shape.discount.1) ≤ℤ (w *ℤ (shape.discount.1 -ℤ shape.discount.0)) →

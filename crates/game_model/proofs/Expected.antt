@@ -10,7 +10,8 @@ use Rattle.scaled_num.specs.Sums.{total}
 use Rattle.scaled_num.proofs.Sums.{each-at}
 use Rattle.game_model.specs.declared.parts.Landing.{Landing}
 use Rattle.game_model.specs.Build.{landing_of}
-use Rattle.game_model.proofs.Sizes.{abs-add, total-more}
+use Rattle.game_model.proofs.Sizes.{total-more}
+use Rattle.scaled_num.proofs.Products.{abs-add}
 
 abbrev pub term : List ℤ → Landing → ℤ
 term vector l = l.weight *ℤ get_or vector l.to (pos 0)

@@ -7,24 +7,10 @@ use Rattle.std.proofs.Math.Nat.{mul-le-mul}
 use Rattle.std.proofs.lemmas.Int.{ints, fits_signed_from_abs, unsigned_abs-mul}
 use Rattle.std.proofs.lemmas.List.FromFn.{map-range_with_len_more}
 use Rattle.scaled_num.specs.Sums.{below, total}
-use Rattle.scaled_num.proofs.Products.{sums}
-use Rattle.scaled_num.proofs.Sums.{each-at, total-append, total-below, total-map}
+use Rattle.scaled_num.proofs.Products.{sums, abs-add, magnitude-is}
+use Rattle.scaled_num.proofs.Sums.{each-at, total-append, total-below, total-map, total-below-more}
 use Rattle.game_model.specs.Game.{GameData, IsGame, IsWithin, first_at, numbers}
 use Rattle.game_model.specs.Numbers.{product}
-
--- one term more
-pub total-below_more : (f : ℕ → ℤ) (n : ℕ) → total f (below (n + 1)) ≡ total f (below n) +ℤ f n
-total-below_more f n =
-    sym (total-map (λ z. z) f (below (n + 1)))
-    ∙ ap (total (λ z. z)) (map-range_with_len_more f 0 n n (omega arith))
-    ∙ total-append (λ z. z) (map f (below n)) (f n ∷ [])
-    ∙ last (total (λ z. z) (map f (below n))) (total f (below n)) (f n) (total-map (λ z. z) f (below n))
-  where
-    last : (x y z : ℤ) → x ≡ y → x +ℤ (z +ℤ pos 0) ≡ y +ℤ z
-    last x y z e = omega (arith, sums, e)
-
-abs-add : (a b : ℤ) → unsigned_abs (a +ℤ b) ≤ unsigned_abs a + unsigned_abs b
-abs-add a b = omega (arith, ints)
 
 abbrev pub term : List ℤ → List ℤ → ℕ → ℤ
 term weights vector s = slice_index_or weights s (pos 0) *ℤ slice_index_or vector s (pos 0)
@@ -55,16 +41,13 @@ next weights vector s sum l same few light small so_far bounded =
       entry_fits = fits_signed_from_abs w128 x (omega arith);
       term_fits = fits_signed_from_abs w128 (w *ℤ x) (omega arith);
       sum_fits = fits_signed_from_abs w128 (sum +ℤ w *ℤ x) (omega arith);
-      so_far = ap (λ z. z +ℤ w *ℤ x) so_far ∙ sym (total-below_more (term weights vector) s);
+      so_far = ap (λ z. z +ℤ w *ℤ x) so_far ∙ sym (total-below-more (term weights vector) s);
       bounded = upto;
     }
-
-same-abs : (x : ℤ) → pos 0 ≤ℤ x → x ≡ pos (unsigned_abs x)
-same-abs x h = omega (arith, ints)
 
 pub product-is : (g : GameData) (vector : List ℤ) → IsGame g → product (numbers g) (first_at g) (λ s. slice_index_or vector s (pos 0)) ≡ total (term g.first vector) (below (length g.first))
 product-is g vector game =
     subst (λ (n : ℕ). product (numbers g) (first_at g) (λ s. slice_index_or vector s (pos 0)) ≡ total (term g.first vector) (below n)) (sym game.first.long)
     (total-below g.shape.states _ (term g.first vector) (λ s l.
-    ap (λ (z : ℤ). z *ℤ slice_index_or vector s (pos 0)) (sym (same-abs (slice_index_or g.first s (pos 0))
+    ap (λ (z : ℤ). z *ℤ slice_index_or vector s (pos 0)) (sym (magnitude-is (slice_index_or g.first s (pos 0))
     (each-at (IsWithin (pos 0) (pos (2 ^ 20))) (pos 0) g.first s game.first.each (subst (λ (n : ℕ). s < n) (sym game.first.long) l)).0))))

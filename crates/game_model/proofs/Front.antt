@@ -16,6 +16,7 @@ use Rattle.game_model.specs.Build.{IsGameFront, IsBuilder, IsMultiple, IsBegun, 
 use Rattle.game_model.specs.declared.parts.Landing.{Landing}
 use Rattle.game_model.specs.declared.parts.Shape.{Shape}
 use Rattle.game_model.specs.declared.parts.Entry.{Entry}
+use Rattle.scaled_num.proofs.Each.{each-by-place, get-map}
 
 -- the belief that a multiple of it is a belief of
 part-within : (k : ℕ) (x : ℤ) → 1 ≤ k → IsWithin (pos 0) (pos (2 ^ 20)) (pos k *ℤ x) → IsWithin (pos 0) (pos (2 ^ 20)) x
@@ -45,11 +46,6 @@ kept-belief states k weights kept some e h =
       sums = sum-within k (sum_of kept) some
           (subst (λ (x : ℤ). IsWithin (pos 1) (pos (2 ^ 20)) x) (ap sum_of e ∙ total-map (λ x. x) (λ x. pos k *ℤ x) kept ∙ total-scale (pos k) (λ x. x) kept) h.sums);
     }
-
--- what holds at each place holds of each element
-pub each-by-place : {X : Type 0} (P : X → Type 0) (d : X) (xs : List X) → ((i : ℕ) → i < length xs → P (get_or xs i d)) → AllByRecursion P xs
-each-by-place P d [] h = tt
-each-by-place P d (x ∷ xs) h = (h 0 (omega arith), each-by-place P d xs (λ i l. h (suc i) (omega arith)))
 
 -- a last row that is full
 full-row : (shape : Shape) (row : List Landing) → IsRowFront shape row → row_sum row ≡ shape.row_total → IsRow shape row
@@ -181,11 +177,6 @@ pub data-step : (shape : Shape) (first : List ℤ) (entries : List Entry) (e : E
 data-step shape first entries e empty =
     same-data shape first _ _ _ _ (map-append reward_of entries (e ∷ []))
     (map-append row_of entries (e ∷ []) ∙ ap (λ (row : List Landing). map row_of entries ++ row ∷ []) empty)
-
-get-map : {X Y : Type 0} (f : X → Y) (xs : List X) (i : ℕ) (d : X) (z : Y) → i < length xs → get_or (map f xs) i z ≡ f (get_or xs i d)
-get-map f [] i d z l = absurd (omega arith)
-get-map f (x ∷ xs) zero d z l = refl
-get-map f (x ∷ xs) (suc i) d z l = get-map f xs i d z (omega arith)
 
 kept : {X Y : Type 0} (f : X → Y) (xs : List X) (i : ℕ) (d e : X) (z : Y) → i < length xs → f e ≡ f (get_or xs i d) → map f (set xs i e) ≡ map f xs
 kept f xs i d e z inside same =

@@ -27,7 +27,7 @@ min-cases : (x y : ℤ) → ((int_min x y ≡ x) × (x ≤ℤ y)) ⊎ ((int_min 
 min-cases x y = by_lt_z y x (λ h. inr (omega (arith, ints, clamps), omega (arith, ints))) (λ h. inl (omega (arith, ints, clamps), h))
 
 -- the last of the first n + 1 numbers, or one of the first n
-last-or : (k n : ℕ) → k < n + 1 → (k < n) ⊎ (k ≡ n)
+pub last-or : (k n : ℕ) → k < n + 1 → (k < n) ⊎ (k ≡ n)
 last-or k n l = search arith
 
 least-keep : (f : ℕ → ℤ) (n : ℕ) (x : ℤ) → IsLeastOf f n x → x ≤ℤ f n → IsLeastOf f (n + 1) x

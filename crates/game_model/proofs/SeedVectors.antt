@@ -4,7 +4,7 @@ use Rattle.std.specs.Prelude.{ℤ, pos, neg_ℤ, ◌+ℤ◌, ◌-ℤ◌, ◌*ℤ
 use Rattle.std.proofs.lemmas.Int.{ints}
 use Rattle.std.proofs.Math.Nat.{mul-le-mul_left}
 use Rattle.scaled_num.specs.Sums.{below}
-use Rattle.scaled_num.proofs.Products.{le-mulℤ, lt-mulℤ_cancel, mulℤ_comm, add-mulℤ, products, sums}
+use Rattle.scaled_num.proofs.Products.{le-mulℤ, lt-mulℤ_cancel, mulℤ_comm, add-mulℤ, products, sums, mul-neg, neg-mul}
 use Rattle.scaled_num.proofs.Sums.{total-below-le}
 use Rattle.game_model.specs.Game.{unit}
 use Rattle.game_model.specs.Numbers.{Numbers, over_row, RowsAreFull}
@@ -49,14 +49,6 @@ floor-le k x y old new low rise high =
 
     last : (x y : ℤ) → x <ℤ (y +ℤ pos 1) → x ≤ℤ y
     last x y h = omega (arith, ints)
-
--- a product with a number below zero
-mul-neg : (k x : ℕ) → pos k *ℤ neg_ℤ (pos x) ≡ neg_ℤ (pos (k * x))
-mul-neg k zero = omega (arith, ints)
-mul-neg k (suc x) = omega (arith, ints)
-
-neg-mul : (x k : ℕ) → neg_ℤ (pos x) *ℤ pos k ≡ neg_ℤ (pos (x * k))
-neg-mul x k = mulℤ_comm (neg_ℤ (pos x)) (pos k) ∙ mul-neg k x ∙ ap (λ z. neg_ℤ (pos z)) (omega arith)
 
 -- a stage's reward and the span that is left are at most the span, times the row total
 span-covers : (reward row over room under span : ℕ) → over + room ≡ under → unit * reward * under ≤ span * room →

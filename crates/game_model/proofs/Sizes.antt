@@ -22,6 +22,3 @@ weight_fits weights i d each l =
     let low = w.0 in
     let high = w.1 in
     fits_signed_from_abs w128 (get_or weights i d) (omega (arith, ints))
-
-pub abs-add : (a b : ℤ) → unsigned_abs (a +ℤ b) ≤ unsigned_abs a + unsigned_abs b
-abs-add a b = omega (arith, ints)

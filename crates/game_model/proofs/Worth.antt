@@ -16,10 +16,9 @@ use Rattle.game_model.specs.Bounds.{IsBounded, IsWithinSpan, IsWorthWithin}
 use Rattle.game_model.specs.declared.parts.Landing.{Landing}
 use Rattle.game_model.proofs.Pay.{each-from}
 use Rattle.game_model.proofs.Rows.{row-landings}
-use Rattle.game_model.proofs.Sizes.{abs-add}
-use Rattle.game_model.proofs.Ceil.{magnitude-is}
 use Rattle.game_model.proofs.Width.{reward_small}
 use Rattle.game_model.proofs.Games.{row-in, reward-in, row-weights, weight-abs, keeps-span}
+use Rattle.scaled_num.proofs.Products.{abs-add, magnitude-is}
 
 -- a sum is no larger than the sum of bounds
 pub total-bound : {X : Type 0} (f : X → ℤ) (w : X → ℕ) (most : ℕ) (xs : List X) → AllByRecursion (λ x. unsigned_abs (f x) ≤ w x * most) xs → unsigned_abs (total f xs) ≤ sum_by w xs * most
@@ -28,7 +27,7 @@ total-bound f w most (x ∷ xs) h =
     rw (sum_by-cons w x xs) (omega (arith, abs-add (f x) (total f xs), h.0, total-bound f w most xs h.1))
 
 -- the span is no more than 2^66
-ceil-small : (n room : ℕ) → 1 ≤ room → (n + room - 1) / room ≤ n
+pub ceil-small : (n room : ℕ) → 1 ≤ room → (n + room - 1) / room ≤ n
 ceil-small n room some = let below = div_below (n + room - 1) room (suc n) some (omega (arith, mul-le-mul_left n some)) in omega arith
 
 greatest-small : (rewards : List ℤ) (n : ℕ) → n ≤ 2 ^ 30 → AllByRecursion IsRewardInRange rewards → fold (λ most r. max most (unsigned_abs r)) n rewards ≤ 2 ^ 30

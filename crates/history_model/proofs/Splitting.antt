@@ -15,16 +15,15 @@ use Rattle.point_set.specs.Points.{Point, Share, mass, shares_at}
 use Rattle.history_model.specs.Plans.{belief_pay, belief_total, informed_plan, mass_product, masses, product_of_positive}
 use Rattle.history_model.proofs.Parts.{PointKeeps, PointLoses, SplittingHolds, SplittingPlans}
 use Rattle.scaled_num.proofs.Products.{mulℤ_comm, mulℤ_assoc, mulℤ_left_comm, le-mulℤ, products, sums}
-use Rattle.scaled_num.proofs.Sums.{total-scale, total-add, total-same, total-le, total-below, total-below-le, total-weights, total-pos, total-map, total-swap, total-places, sum_by-map, each, each-at, each-map, below-each}
+use Rattle.scaled_num.proofs.Sums.{total-scale, total-add, total-same, total-le, total-below, total-below-le, total-weights, total-pos, total-map, total-swap, total-places, sum_by-map, each, each-at, each-map, below-each, sum_by-same}
 use Rattle.game_model.proofs.Steps.{total-first_steps, total-coins_row, total-row}
 use Rattle.game_model.proofs.Pay.{each-from, pay-first_steps}
+use Rattle.scaled_num.proofs.Each.{each-of-map, each-of-flat_map, at-below}
+use Rattle.point_set.proofs.Masses.{behind-two, mass-total, masses-total}
 
 -- a number times a sum of whole numbers
 sum_by-scale : {X : Type 0} (k : ℕ) (f : X → ℕ) (xs : List X) → sum_by (λ x. k * f x) xs ≡ k * sum_by f xs
 sum_by-scale k f xs = ap up (sym (total-pos (λ x. k * f x) xs) ∙ total-scale (pos k) (λ x. pos (f x)) xs ∙ ap (λ z. pos k *ℤ z) (total-pos f xs))
-
-sum_by-same : {X : Type 0} (f g : X → ℕ) (xs : List X) → ((x : X) → f x ≡ g x) → sum_by f xs ≡ sum_by g xs
-sum_by-same f g xs h = ap up (sym (total-pos f xs) ∙ total-same (λ x. pos (f x)) (λ x. pos (g x)) xs (each (λ x. ap pos (h x)) xs) ∙ total-pos g xs)
 
 -- each positive mass of a point divides z
 abbrev DividesAll : Numbers → (ℕ → Point) → ℕ → ℕ → Type 0
@@ -122,13 +121,6 @@ total-left g n s sigma tau =
     (λ b. mulℤ_assoc (pos w) (pos b.0) (pay g n t plan b.1)) (tau c a o t))
     ∙ total-scale (pos w) (λ (b : ℕ × InformedPlan n). pos b.0 *ℤ pay g n t plan b.1) (tau c a o t))))))
 
--- the mass is a sum over states and actions, of any number
-total-mass : (g : Numbers) (point : Point) (a o t : ℕ) (y : ℤ) →
-    total (λ s. total (λ c. pos (point.belief s * point.mixes s c * g.weight s a c o t) *ℤ y) (below g.informed_actions)) (below g.states) ≡ pos (mass g point a o t) *ℤ y
-total-mass g point a o t y =
-    total-below g.states _ _ (λ s ls. total-weights (λ c. point.belief s * point.mixes s c * g.weight s a c o t) y (below g.informed_actions))
-    ∙ total-weights (λ s. sum_by (λ c. point.belief s * point.mixes s c * g.weight s a c o t) (below g.informed_actions)) y (below g.states)
-
 -- The splitting: what is left, over the states and the informed player's actions, is what the shares are left with.
 -- Player one's plan of what is left does not depend on the share.
 split-left : (g : Numbers) (points : ℕ → Point) (z j n a o t : ℕ) (plan : OwnPlan n) →
@@ -147,7 +139,7 @@ split-left g points z j n a o t plan split divides =
           (total-below g.states _ _ (λ s ls. total-below g.informed_actions _
           (λ c. pos (b s * mixes s c * g.weight s a c o t) *ℤ (pos z *ℤ pay g n t plan (informed_plan g points z t t n)))
           (λ c lc. alone_only (pos (b s)) (pos (g.weight s a c o t)) (pos (mixes s c)) (pos z) (pay g n t plan (informed_plan g points z t t n))))
-          ∙ total-mass g (points j) a o t (pos z *ℤ pay g n t plan (informed_plan g points z t t n))
+          ∙ mass-total g (points j) a o t (pos z *ℤ pay g n t plan (informed_plan g points z t t n))
           ∙ nothing w (pos z *ℤ pay g n t plan (informed_plan g points z t t n)) (pos z) rest e.1
           (zero-weights (λ share. share.weight * (points share.point).belief t) (λ share. pay g n t plan (informed_plan g points z share.point t n)) shares (split ∙ e.1)))
       | inr e ↦ rw e.0
@@ -160,7 +152,7 @@ split-left g points z j n a o t plan split divides =
           (each (λ share. four (pos (mixes s c)) (pos share.weight) (pos ((points share.point).belief t)) (pos (z / w)) (pay g n t plan (informed_plan g points z share.point t n))) shares)
           ∙ total-scale (pos (mixes s c * (z / w))) (λ share. pos (share.weight * (points share.point).belief t) *ℤ pay g n t plan (informed_plan g points z share.point t n)) shares)
           ∙ alone (pos (b s)) (pos (g.weight s a c o t)) (pos (mixes s c)) (pos (z / w)) rest))
-          ∙ total-mass g (points j) a o t (pos (z / w) *ℤ rest)
+          ∙ mass-total g (points j) a o t (pos (z / w) *ℤ rest)
           ∙ sym (mulℤ_assoc (pos w) (pos (z / w)) rest)
           ∙ ap (λ x. pos x *ℤ rest) (divides e.1))
     ]
@@ -189,16 +181,6 @@ scale-behind k f os ts us =
     ∙ total-same _ _ os (each (λ o.
     sym (total-scale k (λ t. total (λ u. f o t u) (us o)) ts)
     ∙ total-same _ _ ts (each (λ t. sym (total-scale k (λ u. f o t u) (us o))) ts)) os)
-
--- two sums before two others go behind them
-total-behind_two : {S C O T : Type 0} (f : S → C → O → T → ℤ) (ss : List S) (cs : List C) (os : List O) (ts : List T) →
-    total (λ s. total (λ c. total (λ o. total (λ t. f s c o t) ts) os) cs) ss ≡ total (λ o. total (λ t. total (λ s. total (λ c. f s c o t) cs) ss) ts) os
-total-behind_two f ss cs os ts =
-    total-same _ _ ss (each (λ s.
-    total-swap (λ c o. total (λ t. f s c o t) ts) cs os
-    ∙ total-same _ _ os (each (λ o. total-swap (λ c t. f s c o t) cs ts) os)) ss)
-    ∙ total-swap (λ s o. total (λ t. total (λ c. f s c o t) cs) ts) ss os
-    ∙ total-same _ _ os (each (λ o. total-swap (λ s t. total (λ c. f s c o t) cs) ss ts) os)
 
 -- a sum of bounded terms, times e
 scale-le : {X : Type 0} (e : ℤ) (f g : X → ℤ) (xs : List X) → AllByRecursion (λ x. (e *ℤ f x) ≤ℤ g x) xs → (e *ℤ total f xs) ≤ℤ total g xs
@@ -312,37 +294,6 @@ left-le g points z j n e sigma p bound hp h =
         rw (mulℤ_left_comm e (pos x) (pos z *ℤ y), mulℤ_left_comm e (pos z) y)
         (le-mulℤ x (pos z *ℤ (e *ℤ y)) (pos z *ℤ b) (le-mulℤ z (e *ℤ y) b l))
 
--- all masses after an own action sum to the row total times the mixes' total times the belief's
-total-masses : (g : Numbers) (m : ℕ) (point : Point) → RowsAreFull g → ((s : ℕ) → s < g.states → sum_by (point.mixes s) (below g.informed_actions) ≡ m) →
-    (a : ℕ) → a < g.own_actions →
-    total (λ o. total (λ t. pos (mass g point a o t)) (below g.states)) (below g.observations) ≡ pos (g.row_total * m * belief_total g point)
-total-masses g m point full mixes a la =
-    total-below g.observations _ _ (λ o lo. total-below g.states _ _ (λ t lt. once (pos (mass g point a o t)) ∙ sym (total-mass g point a o t (pos 1))))
-    ∙ sym (total-behind_two (λ s c o t. pos (point.belief s * point.mixes s c * g.weight s a c o t) *ℤ pos 1) (below g.states) (below g.informed_actions) (below g.observations) (below g.states))
-    ∙ total-below g.states _ (λ s. pos (point.belief s) *ℤ pos (g.row_total * m)) (λ s ls.
-    total-below g.informed_actions _ (λ c. pos (point.mixes s c) *ℤ pos (g.row_total * point.belief s)) (λ c lc.
-    total-below g.observations _ _ (λ o lo. total-below g.states _ _ (λ t lt.
-    turn (pos (point.belief s)) (pos (point.mixes s c)) (pos (g.weight s a c o t))))
-    ∙ total-row g full s a c ls la lc (pos (point.belief s * point.mixes s c))
-    ∙ swap (pos g.row_total) (pos (point.belief s)) (pos (point.mixes s c)))
-    ∙ total-weights (point.mixes s) (pos (g.row_total * point.belief s)) (below g.informed_actions)
-    ∙ ap (λ k. pos k *ℤ pos (g.row_total * point.belief s)) (mixes s ls)
-    ∙ last (pos m) (pos g.row_total) (pos (point.belief s)))
-    ∙ total-weights point.belief (pos (g.row_total * m)) (below g.states)
-    ∙ mulℤ_comm (pos (belief_total g point)) (pos (g.row_total * m))
-  where
-    once : (x : ℤ) → x ≡ x *ℤ pos 1
-    once x = omega (arith, ints)
-
-    turn : (b m w : ℤ) → ((b *ℤ m) *ℤ w) *ℤ pos 1 ≡ w *ℤ (b *ℤ m)
-    turn b m w = sym (once ((b *ℤ m) *ℤ w)) ∙ mulℤ_comm (b *ℤ m) w
-
-    swap : (d b m : ℤ) → d *ℤ (b *ℤ m) ≡ m *ℤ (d *ℤ b)
-    swap d b m = simp products (omega (arith, sums))
-
-    last : (m d b : ℤ) → m *ℤ (d *ℤ b) ≡ b *ℤ (d *ℤ m)
-    last m d b = simp products (omega (arith, sums))
-
 -- the bound of what is left, after an own action: the values of the shares' points, and their tails
 total-bound : (g : Numbers) (e m v count : ℕ) (points : ℕ → Point) (j : ℕ) → RowsAreFull g → PointKeeps g m v count (points j) → PointLoses g e m points j →
     (a : ℕ) → a < g.own_actions → (k tail : ℕ) →
@@ -362,7 +313,7 @@ total-bound g e m v count points j full fit stand a la k tail =
     ∙ total-swap (λ share t. pos (share.weight * (points share.point).belief t)) (shares o) (below g.states)
     ∙ total-below g.states _ (λ t. pos (mass g (points j) a o t)) (λ t lt.
     total-pos (λ share. share.weight * (points share.point).belief t) (shares o) ∙ ap pos (stand.split a o t la lo lt)))
-    ∙ total-masses g m (points j) full fit.mixes_sum a la in
+    ∙ masses-total g m (points j) full fit.mixes_sum a la in
     total-below g.observations _ (λ o. pos k *ℤ worth o +ℤ pos tail *ℤ all o) (λ o lo.
     total-same _ (λ share. pos k *ℤ (pos share.weight *ℤ (points share.point).value) +ℤ pos tail *ℤ pos (share.weight * belief_total g (points share.point))) (shares o)
     (each (λ share. spread (pos share.weight) ((points share.point).value) (pos k) (pos tail) (pos (belief_total g (points share.point)))) (shares o))
@@ -581,14 +532,6 @@ each-from_append : {X : Type 0} (P : X → Type 0) (xs ys : List X) → AllByRec
 each-from_append P [] ys h = (tt, h)
 each-from_append P (x ∷ xs) ys h = let k = each-from_append P xs ys h.1 in ((h.0, k.0), k.1)
 
-each-from_flat_map : {X Y : Type 0} (P : Y → Type 0) (f : X → List Y) (xs : List X) → AllByRecursion P (flat_map f xs) → AllByRecursion (λ x. AllByRecursion P (f x)) xs
-each-from_flat_map P f [] h = tt
-each-from_flat_map P f (x ∷ xs) h = let k = each-from_append P (f x) (flat_map f xs) h in (k.0, each-from_flat_map P f xs k.1)
-
-each-from_map : {X Y : Type 0} (P : Y → Type 0) (f : X → Y) (xs : List X) → AllByRecursion P (map f xs) → AllByRecursion (λ x. P (f x)) xs
-each-from_map P f [] h = tt
-each-from_map P f (x ∷ xs) h = (h.0, each-from_map P f xs h.1)
-
 from-below : (P : ℕ → Type 0) (b n : ℕ) → AllByRecursion P (range_with_len b n) → (i : ℕ) → b ≤ i → i < b + n → P i
 from-below P b zero h i l m = absurd (omega arith)
 from-below P b (suc n) h i l m =
@@ -597,17 +540,14 @@ from-below P b (suc n) h i l m =
     apart : (i b : ℕ) → b ≤ i → i ≢ b → b + 1 ≤ i
     apart i b l ne = omega arith
 
-at-below : (P : ℕ → Type 0) (n i : ℕ) → AllByRecursion P (below n) → i < n → P i
-at-below P n i h l = from-below P 0 n h i (omega arith) (omega arith)
-
 pub masses-divide : (g : Numbers) (points : ℕ → Point) (count : ℕ) → DividesAll g points count (mass_product g points count)
 masses-divide g points count j a o t lj la lo lt ne =
     let z = mass_product g points count in
     let P = Divides z in
-    let all = each-from_flat_map P _ (below count) (product-divides (masses g points count)) in
-    let one = each-from_flat_map P _ (below g.own_actions) (at-below _ count j all lj) in
-    let two = each-from_flat_map P _ (below g.observations) (at-below _ g.own_actions a one la) in
-    let three = each-from_map P _ (below g.states) (at-below _ g.observations o two lo) in
+    let all = each-of-flat_map P _ (below count) (product-divides (masses g points count)) in
+    let one = each-of-flat_map P _ (below g.own_actions) (at-below _ count j all lj) in
+    let two = each-of-flat_map P _ (below g.observations) (at-below _ g.own_actions a one la) in
+    let three = each-of-map P _ (below g.states) (at-below _ g.observations o two lo) in
     let k = (at-below _ g.states t three lt).divides ne in
     quotient (mass g (points j) a o t) k.0 z ne k.1
   where

@@ -8,8 +8,8 @@ use Rattle.scaled_num.proofs.Sums.{each-at, total-below}
 use Rattle.game_model.specs.Game.{GameData, IsGame, IsWithin, first_at, numbers, span}
 use Rattle.game_model.specs.Numbers.{product}
 use Rattle.game_model.specs.Seeds.{IsSeed, SeedsStand, KeepsSpan}
-use Rattle.game_model.proofs.Front.{each-by-place}
 use Rattle.game_model.proofs.Worth.{span-small}
+use Rattle.scaled_num.proofs.Each.{each-by-place}
 
 within-abs : (x : ℤ) (n most : ℕ) → (neg_ℤ (pos n)) ≤ℤ x → x ≤ℤ pos n → n ≤ most → unsigned_abs x ≤ most
 within-abs x n most low high l = omega (arith, ints)

@@ -14,6 +14,7 @@ use Rattle.point_set.specs.Corners.{HasCorner, IsAtCorner, IsCurrentCorner, poin
 use Rattle.point_set.specs.Kept.{AreKept, IsAbove, IsCornerNumber, IsNumber, IsSure}
 use Rattle.point_set.specs.Members.{most_points}
 use Rattle.point_set.specs.Points.{PointData, no_point}
+use Rattle.belief.proofs.Parts.{corner-sum}
 
 -- ---- a belief whose total is 1 is sure of its first state with weight
 abbrev IsWeight : ℤ → Type 0
@@ -58,11 +59,6 @@ sure-parts (x ∷ xs) (suc s) h l p e =
 
 pub is-sure : (belief : List ℤ) (s : ℕ) → IsBelief (length belief) belief → s < length belief → pos 1 ≤ℤ at belief s → sum_of belief ≡ pos 1 → IsSure belief s
 is-sure belief s h l p e = record { state = l; parts = sure-parts belief s h.each l p e }
-
-corner-sum : (n s : ℕ) → s < n → sum_of (corner_of n s) ≡ pos 1
-corner-sum zero s l = absurd (omega arith)
-corner-sum (suc n) zero l = omega (arith, ints, sum-zeros n)
-corner-sum (suc n) (suc s) l = omega (arith, ints, corner-sum n s (omega arith))
 
 pub sure-sum : (belief : List ℤ) (s : ℕ) → IsSure belief s → sum_of belief ≡ pos 1
 sure-sum belief s h = ap sum_of h.parts ∙ corner-sum (length belief) s h.state

@@ -11,13 +11,13 @@ use Rattle.scaled_num.specs.Sums.{sum_of, total}
 use Rattle.scaled_num.proofs.Products.{add-mulℤ, sums}
 use Rattle.scaled_num.proofs.Floors.{at_le_sum, product_none_negative}
 use Rattle.scaled_num.proofs.Sums.{each-at}
-use Rattle.game_model.proofs.Front.{each-by-place}
 use Rattle.game_model.proofs.Pay.{each-from}
 use Rattle.game_model.specs.Game.{IsBelief, IsWithin}
 use Rattle.point_set.specs.Corners.{point_at}
 use Rattle.point_set.specs.Points.{PointData, no_point}
 use Rattle.point_set.specs.Split.{AreRisingPairs, weight_of}
 use Rattle.point_set.specs.Takes.{AreBeliefs, AreItems, inserted}
+use Rattle.scaled_num.proofs.Each.{each-by-place}
 
 -- pairs stand before all later ones
 pub later : (x : ℕ × ℤ) (xs : List (ℕ × ℤ)) → AreRisingPairs (x ∷ xs) → AllByRecursion (λ y. x.0 < y.0) xs

@@ -10,7 +10,6 @@ use Rattle.scaled_num.specs.Share.{at}
 use Rattle.scaled_num.specs.Sums.{sum_of}
 use Rattle.scaled_num.proofs.Sums.{each-at, total-below}
 use Rattle.game_model.specs.Game.{GameData, IsBelief, greatest_reward, span}
-use Rattle.game_model.proofs.Ceil.{magnitude-is}
 use Rattle.game_model.proofs.Worth.{span-small}
 use Rattle.point_set.specs.Bounds.{IsPointBound, IsPriced, IsSized, cost_at, cost_less}
 use Rattle.point_set.specs.Corners.{HasCorner, IsCurrentCorner, point_at}
@@ -21,6 +20,7 @@ use Rattle.point_set.specs.Sawtooth.{AreCorners, AreMeasured, IsBound, IsMostTim
 use Rattle.point_set.proofs.CornerNumbers.{sure-sum}
 use Rattle.point_set.proofs.PointBounds.{one-times}
 use Rattle.point_set.proofs.Worth.{Widths, value-abs, widths}
+use Rattle.scaled_num.proofs.Products.{magnitude-is}
 
 -- these are the values of these corners
 abbrev pub AreValues : List PointData → (ℕ → ℕ) → ℕ → List ℤ → Type 0

@@ -6,11 +6,10 @@ use Rattle.std.proofs.Math.Nat.{mul-le-mul_left, mul-le-mul_right}
 use Rattle.std.proofs.lemmas.Int.{ints, unsigned_abs-mul}
 use Rattle.std.proofs.lemmas.List.Sums.{sum_by-cons}
 use Rattle.scaled_num.specs.Sums.{below, total, sum_of}
-use Rattle.scaled_num.proofs.Products.{mulℤ_comm, products, sums}
-use Rattle.scaled_num.proofs.Sums.{each, each-at, total-below, total-places, total-pos, total-same, total-swap, total-weights}
+use Rattle.scaled_num.proofs.Products.{mulℤ_comm, products, sums, magnitude-is}
+use Rattle.scaled_num.proofs.Sums.{each, each-at, total-below, total-places, total-pos, total-same, total-swap, total-weights, sum_by-same}
 use Rattle.game_model.specs.Numbers.{Numbers, RowsAreFull}
 use Rattle.game_model.specs.Game.{IsBelief, IsWithin}
-use Rattle.game_model.proofs.Ceil.{magnitude-is}
 use Rattle.game_model.proofs.Steps.{total-row}
 use Rattle.belief.specs.Beliefs.{mix_weight, weight_at}
 use Rattle.belief.specs.Mixes.{AreMixes, MixesData, mix_at}
@@ -19,7 +18,7 @@ use Rattle.point_set.specs.Points.{Point, mass}
 use Rattle.point_set.specs.declared.points.Share.{Share as ShareParts}
 
 -- the sums over states and actions trade places with those over observations and next states
-behind-two : {S C O T : Type 0} (f : S → C → O → T → ℤ) (ss : List S) (cs : List C) (os : List O) (ts : List T) →
+pub behind-two : {S C O T : Type 0} (f : S → C → O → T → ℤ) (ss : List S) (cs : List C) (os : List O) (ts : List T) →
     total (λ s. total (λ c. total (λ o. total (λ t. f s c o t) ts) os) cs) ss ≡ total (λ o. total (λ t. total (λ s. total (λ c. f s c o t) cs) ss) ts) os
 behind-two f ss cs os ts =
     total-same _ _ ss (each (λ s.
@@ -28,13 +27,13 @@ behind-two f ss cs os ts =
     ∙ total-swap (λ s o. total (λ t. total (λ c. f s c o t) cs) ts) ss os
     ∙ total-same _ _ os (each (λ o. total-swap (λ s t. total (λ c. f s c o t) cs) ss ts) os)
 
-mass-total : (g : Numbers) (point : Point) (a o t : ℕ) (y : ℤ) →
+pub mass-total : (g : Numbers) (point : Point) (a o t : ℕ) (y : ℤ) →
     total (λ s. total (λ c. pos (point.belief s * point.mixes s c * g.weight s a c o t) *ℤ y) (below g.informed_actions)) (below g.states) ≡ pos (mass g point a o t) *ℤ y
 mass-total g point a o t y =
     total-below g.states _ _ (λ s ls. total-weights (λ c. point.belief s * point.mixes s c * g.weight s a c o t) y (below g.informed_actions))
     ∙ total-weights (λ s. sum_by (λ c. point.belief s * point.mixes s c * g.weight s a c o t) (below g.informed_actions)) y (below g.states)
 
-masses-total : (g : Numbers) (m : ℕ) (point : Point) → RowsAreFull g → ((s : ℕ) → s < g.states → sum_by (point.mixes s) (below g.informed_actions) ≡ m) → (a : ℕ) → a < g.own_actions →
+pub masses-total : (g : Numbers) (m : ℕ) (point : Point) → RowsAreFull g → ((s : ℕ) → s < g.states → sum_by (point.mixes s) (below g.informed_actions) ≡ m) → (a : ℕ) → a < g.own_actions →
     total (λ o. total (λ t. pos (mass g point a o t)) (below g.states)) (below g.observations) ≡ pos (g.row_total * m * sum_by point.belief (below g.states))
 masses-total g m point full mixes a la =
     total-below g.observations _ _ (λ o lo. total-below g.states _ _ (λ t lt. once (pos (mass g point a o t)) ∙ sym (mass-total g point a o t (pos 1))))
@@ -89,11 +88,6 @@ mix-total mixes h s ls =
     ap unsigned_abs (sym (total-below mixes.actions (λ c. mix_at mixes s c) (λ c. pos (mix_weight mixes s c)) (λ c lc. magnitude-is (mix_at mixes s c) (mix-within mixes h s c ls lc).0) ∙ total-pos (mix_weight mixes s) (below mixes.actions))
     ∙ h.sums s ls)
 
--- what shares count for at most
-sum-same : {X : Type 0} (f g : X → ℕ) (xs : List X) → ((x : X) → f x ≡ g x) → sum_by f xs ≡ sum_by g xs
-sum-same f g [] h = refl
-sum-same f g (x ∷ xs) h = omega (arith, sum_by-cons f x xs, sum_by-cons g x xs, h x, sum-same f g xs h)
-
 sum-split : {X : Type 0} (k : ℕ) (f h : X → ℕ) (xs : List X) → sum_by (λ x. k * f x + h x) xs ≡ k * sum_by f xs + sum_by h xs
 sum-split k f h [] = omega arith
 sum-split k f h (x ∷ xs) = omega (arith, sum_by-cons (λ x. k * f x + h x) x xs, ap (λ (n : ℕ). k * n) (sum_by-cons f x xs), sum_by-cons h x xs, sum-split k f h xs)
@@ -107,7 +101,7 @@ shares-size points most states (w ∷ ws) h =
     let rest : ℕ = sum_by (λ t. sum_by (brought points t) ws) (below states) in
     let first : unsigned_abs (counted points w) ≤ weight * (most * b) = rw (unsigned_abs-mul w.weight (points w.k).value) (mul-le-mul_left weight h.0) in
     let whole : sum_by (λ t. sum_by (brought points t) (w ∷ ws)) (below states) ≡ weight * b + rest =
-    sum-same _ (λ t. weight * (points w.k).belief t + sum_by (brought points t) ws) (below states) (λ t. sum_by-cons (brought points t) w ws)
+    sum_by-same _ (λ t. weight * (points w.k).belief t + sum_by (brought points t) ws) (below states) (λ t. sum_by-cons (brought points t) w ws)
     ∙ sum-split weight (points w.k).belief (λ t. sum_by (brought points t) ws) (below states) in
     rw (sum_by-cons (λ (v : ShareParts). unsigned_abs (counted points v)) w ws, whole) (joined weight most b rest _ _ first (shares-size points most states ws h.1))
   where

@@ -14,7 +14,6 @@ use Rattle.game_model.specs.Numbers.{Numbers}
 use Rattle.game_model.proofs.Pay.{each-from}
 use Rattle.belief.proofs.Landings.{each-filter}
 use Rattle.game_model.specs.Game.{GameData, IsWithin, numbers}
-use Rattle.game_model.proofs.Ceil.{magnitude-is}
 use Rattle.game_model.proofs.Front.{length-map}
 use Rattle.belief.proofs.Sums.{magnitude-small}
 use Rattle.point_set.specs.Members.{IsAfter, IsMember, IsNamed, branch_of, brought, data_of, most_points, point_data}
@@ -22,6 +21,8 @@ use Rattle.point_set.specs.Points.{Point, PointFits, Share, SplitHolds, mass, mo
 use Rattle.point_set.specs.declared.points.Point.{Point as PointParts}
 use Rattle.point_set.specs.declared.points.Share.{Share as ShareParts}
 use Rattle.point_set.proofs.Shares.{few-shares, no_share}
+use Rattle.scaled_num.proofs.Each.{each-of-map}
+use Rattle.scaled_num.proofs.Products.{magnitude-is}
 
 pub data-at : (points : List PointParts) (k : ℕ) (x : PointParts) → k < length points → x ≡ get_or points k x → get_or (data_of points) k no_point ≡ point_data x
 data-at points k x l e = get_or-map point_data points k x no_point l ∙ ap point_data (sym e)
@@ -80,10 +81,6 @@ shared-is points p a o t =
     ap (sum_by (λ (share : Share). share.weight * (points share.point).belief t)) (shares-at p.splits.items a o)
     ∙ sum_by-map (λ (share : Share). share.weight * (points share.point).belief t) share_of (map branch_of (filter (IsAfter a o) p.splits.items))
     ∙ sum_by-map (λ (b : Branch). unsigned_abs b.weight * (points b.member).belief t) branch_of (filter (IsAfter a o) p.splits.items)
-
-pub each-of-map : {X Y : Type 0} (P : Y → Type 0) (f : X → Y) (xs : List X) → AllByRecursion P (map f xs) → AllByRecursion (λ x. P (f x)) xs
-each-of-map P f [] h = tt
-each-of-map P f (x ∷ xs) h = (h.0, each-of-map P f xs h.1)
 
 -- what the shares of a point keep
 pub record SharesFit (points : List PointParts) (xs : List ShareParts) : Type 0 where

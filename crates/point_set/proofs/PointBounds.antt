@@ -11,13 +11,13 @@ use Rattle.scaled_num.specs.Sums.{below, sum_of, total}
 use Rattle.scaled_num.proofs.Ring.{ring, x, ◌⊕◌, ◌⊖◌, ◌⊗◌}
 use Rattle.scaled_num.proofs.Sums.{each-at, total-below, total-below-le, total-places, total-pos, total-scale}
 use Rattle.game_model.specs.Game.{IsBelief, IsWithin}
-use Rattle.game_model.proofs.Ceil.{magnitude-is}
 use Rattle.game_model.proofs.Pay.{each-from}
 use Rattle.belief.specs.Beliefs.{weight_at}
 use Rattle.point_set.specs.Bounds.{IsPriced, IsSized, cost_at, cost_less, cost_size}
 use Rattle.point_set.specs.Sawtooth.{FitsTimes, IsMostTimes}
 use Rattle.point_set.proofs.Masses.{sum-below-scaled}
-use Rattle.point_set.proofs.Running.{abs-add, at-most-sum, next-sum, total-size}
+use Rattle.point_set.proofs.Running.{at-most-sum, next-sum, total-size}
+use Rattle.scaled_num.proofs.Products.{abs-add, magnitude-is}
 
 -- ---- the sum as the code forms it
 abbrev pub term : List ℤ → List ℤ → ℕ → ℤ

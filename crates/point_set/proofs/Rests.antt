@@ -25,7 +25,7 @@ use Rattle.point_set.specs.Takes.{AreBeliefs, AreItems, IsSmall, inserted, other
 use Rattle.point_set.proofs.Counted.{few-items, others-inserted, same-corner}
 use Rattle.point_set.proofs.Items.{add-item, belief-at, by-recursion, each-grown, rising-inserted, same-items, weight-inserted}
 use Rattle.point_set.proofs.Masses.{sum-below-same}
-use Rattle.point_set.proofs.Running.{total-below-more}
+use Rattle.scaled_num.proofs.Sums.{total-below-more}
 
 -- one more state
 rests-cases : (P : List (ℕ × ℤ) → Type 0) (corners : ℕ → ℕ) (rest : List ℤ) (items : List (ℕ × ℤ)) (n : ℕ) →

@@ -8,31 +8,8 @@ use Rattle.std.proofs.lemmas.List.Sums.{sum_by-cons, sum_by_more, sum_by_more_le
 use Rattle.scaled_num.specs.Sums.{below, total}
 use Rattle.game_model.proofs.Sizes.{total-more}
 use Rattle.belief.proofs.Sums.{sum-below-more}
-
-pub abs-add : (a b : ℤ) → unsigned_abs (a +ℤ b) ≤ unsigned_abs a + unsigned_abs b
-abs-add a b = omega (arith, ints)
-
-total-range-more : (f : ℕ → ℤ) (a n : ℕ) → total f (range_with_len a (suc n)) ≡ total f (range_with_len a n) +ℤ f (a + n)
-total-range-more f a zero = one (f a) ∙ ap (λ (k : ℕ). pos 0 +ℤ f k) (same a)
-  where
-    one : (z : ℤ) → z +ℤ pos 0 ≡ pos 0 +ℤ z
-    one z = omega (arith, ints)
-
-    same : (a : ℕ) → a ≡ a + 0
-    same a = omega arith
-total-range-more f a (suc n) = ap (λ (z : ℤ). f a +ℤ z) (total-range-more f (a + 1) n ∙ ap (λ (k : ℕ). total f (range_with_len (a + 1) n) +ℤ f k) (same a n)) ∙ regroup (f a) (total f (range_with_len (a + 1) n)) (f (a + suc n))
-  where
-    same : (a n : ℕ) → a + 1 + n ≡ a + suc n
-    same a n = omega arith
-
-    regroup : (x y z : ℤ) → x +ℤ (y +ℤ z) ≡ x +ℤ y +ℤ z
-    regroup x y z = omega (arith, ints)
-
-pub total-below-more : (f : ℕ → ℤ) (n : ℕ) → total f (below (n + 1)) ≡ total f (below n) +ℤ f n
-total-below-more f n = rw (add-one n) (total-range-more f 0 n ∙ ap (λ (k : ℕ). total f (below n) +ℤ f k) (same n))
-  where
-    same : (n : ℕ) → 0 + n ≡ n
-    same n = omega arith
+use Rattle.scaled_num.proofs.Products.{abs-add}
+use Rattle.scaled_num.proofs.Sums.{total-below-more}
 
 sum-below-rises : (f : ℕ → ℕ) (n k : ℕ) → sum_by f (below n) ≤ sum_by f (below (n + k))
 sum-below-rises f n zero = subst (λ (m : ℕ). sum_by f (below n) ≤ sum_by f (below m)) (same n) (omega arith)

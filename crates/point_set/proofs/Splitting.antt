@@ -8,7 +8,6 @@ use Rattle.scaled_num.specs.Sums.{below, sum_of, total}
 use Rattle.scaled_num.proofs.Floors.{at_le_sum, sum-none_negative}
 use Rattle.scaled_num.proofs.Products.{sums}
 use Rattle.scaled_num.proofs.Sums.{each-at}
-use Rattle.game_model.proofs.Front.{each-by-place}
 use Rattle.game_model.proofs.Pay.{each-from}
 use Rattle.game_model.specs.Game.{IsBelief, IsWithin}
 use Rattle.point_set.specs.Corners.{point_at}
@@ -20,6 +19,7 @@ use Rattle.point_set.specs.Takes.{AreBeliefs, AreItems, AreTaken, others, with_r
 use Rattle.point_set.proofs.Counted.{few-items}
 use Rattle.point_set.proofs.Items.{by-recursion, items-most}
 use Rattle.point_set.proofs.Rests.{left_from, rests-end, rests-made, rests-weigh, same-corners, same-others}
+use Rattle.scaled_num.proofs.Each.{each-by-place}
 
 -- what is measured
 pub measured-beliefs : (points : List PointData) (mass : List ℤ) → AreMeasured points mass → AreBeliefs (length mass) points

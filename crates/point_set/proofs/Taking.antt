@@ -12,7 +12,6 @@ use Rattle.scaled_num.specs.Sums.{below, sum_of, total}
 use Rattle.scaled_num.proofs.Floors.{NoneNegative, at_le_sum, cancel, product_le, product_none_negative, small_fits}
 use Rattle.scaled_num.proofs.Products.{add-mulℤ, sums}
 use Rattle.scaled_num.proofs.Sums.{each-at, each-map, total-append, total-below-le, total-places}
-use Rattle.game_model.proofs.Front.{each-by-place}
 use Rattle.game_model.proofs.Pay.{each-from}
 use Rattle.game_model.specs.Game.{IsBelief, IsWithin}
 use Rattle.point_set.specs.Corners.{point_at}
@@ -21,6 +20,7 @@ use Rattle.point_set.specs.Sawtooth.{FitsTimes, IsMostTimes}
 use Rattle.point_set.specs.Split.{AreTakes, Take, TakesMost, less_times, weight_of}
 use Rattle.point_set.specs.Takes.{AreTaken, IsLesser}
 use Rattle.point_set.proofs.Items.{at-least, by-recursion, has-weight, parts-none-negative}
+use Rattle.scaled_num.proofs.Each.{each-by-place}
 
 pub less-long : (mass belief : List ℤ) (times : ℤ) → length (less_times mass belief times) ≡ length mass
 less-long mass belief times = length-map-range_with_len (λ s. at mass s -ℤ times *ℤ at belief s) 0 (length mass)

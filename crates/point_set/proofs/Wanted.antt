@@ -10,7 +10,6 @@ use Rattle.scaled_num.specs.Sums.{sum_of}
 use Rattle.scaled_num.proofs.Floors.{at_le_sum}
 use Rattle.scaled_num.proofs.Products.{sums}
 use Rattle.scaled_num.proofs.Sums.{each-at}
-use Rattle.game_model.proofs.Front.{each-by-place}
 use Rattle.game_model.specs.Game.{IsBelief}
 use Rattle.point_set.specs.Corners.{point_at}
 use Rattle.point_set.specs.Points.{PointData}
@@ -19,6 +18,7 @@ use Rattle.point_set.specs.Takes.{AreBeliefs, AreItems, AreTaken, IsSmall, inser
 use Rattle.point_set.proofs.Counted.{few-items, others-inserted}
 use Rattle.point_set.proofs.Items.{add-item, belief-at, by-recursion, items-most, no-items, rising-inserted, weight-inserted}
 use Rattle.point_set.proofs.Taking.{less-at, less-long, less-none, less-none-negative, less-sum, no-takes, taken-more}
+use Rattle.scaled_num.proofs.Each.{each-by-place}
 
 -- the wanted points before the i-th took from a mass, this remains, and these are the items
 pub record WantedSoFar (points : List PointData) (mass : List ℤ) (wanted : List (ℕ × ℤ)) (shares : List ℤ) (i : ℕ) (rest : List ℤ) (items : List (ℕ × ℤ)) : Type 0 where

@@ -7,18 +7,17 @@ use Rattle.std.proofs.Math.Nat.{mul-le-mul_left, mul-le-mul_right}
 use Rattle.std.proofs.lemmas.Int.{ints, fits_signed_from_abs, unsigned_abs-mul}
 use Rattle.std.proofs.lemmas.Nat.{div_below, mul-le}
 use Rattle.scaled_num.specs.Sums.{below, total, sum_of}
-use Rattle.scaled_num.proofs.Products.{products, sums}
+use Rattle.scaled_num.proofs.Products.{products, sums, abs-add, magnitude-is}
 use Rattle.scaled_num.proofs.Sums.{below-each, total-below, total-map, total-same, total-scale}
 use Rattle.game_model.specs.Branches.{Branch, IsBranch, mix_total}
 use Rattle.game_model.specs.Game.{GameData, IsGame, IsNarrow, IsRewardInRange, IsWithin, greatest_reward, numbers, reward_at, span, triple, unit}
 use Rattle.game_model.specs.declared.parts.Shape.{Shape}
-use Rattle.game_model.proofs.Ceil.{magnitude-is}
 use Rattle.game_model.proofs.Games.{keeps-span, max-bound, place-lt}
 use Rattle.game_model.proofs.Pay.{each-from}
 use Rattle.game_model.proofs.Width.{at_most, reward_small}
 use Rattle.std.specs.Bool.{IsTrue}
 use Rattle.std.specs.Int.Signed.{le_z}
-use Rattle.game_model.proofs.Worth.{divisor-is, span-small, total-bound}
+use Rattle.game_model.proofs.Worth.{divisor-is, span-small, total-bound, ceil-small}
 use Rattle.belief.proofs.Landings.{each-filter}
 use Rattle.belief.specs.Beliefs.{mix_weight, weight_at}
 use Rattle.belief.specs.Mixes.{AreMixes, MixesData}
@@ -28,9 +27,10 @@ use Rattle.point_set.specs.Points.{Point, PointFits, Share, most_share, point_of
 use Rattle.point_set.specs.declared.points.Point.{Point as PointParts}
 use Rattle.point_set.specs.declared.points.Share.{Share as ShareParts}
 use Rattle.point_set.proofs.Masses.{belief-total, masses-sum, mix-total, shares-size, sum-below-same, sum-below-scaled}
-use Rattle.point_set.proofs.Named.{each-of-map, named-all, shared-is, shares-at}
-use Rattle.point_set.proofs.Running.{abs-add, total-size}
+use Rattle.point_set.proofs.Named.{named-all, shared-is, shares-at}
+use Rattle.point_set.proofs.Running.{total-size}
 use Rattle.std.proofs.lemmas.List.Sums.{sum_by-le-sum_by}
+use Rattle.scaled_num.proofs.Each.{each-of-map}
 
 -- ---- the width rule at the greatest reward
 greater : (k n r most : ℕ) → k * n ≤ most → k * max 1 r ≤ most → k * max n r ≤ most
@@ -57,9 +57,6 @@ narrow-fold shape (r ∷ rs) n ld lq l h =
     narrow-fold shape rs (max n (unsigned_abs r)) ld lq
     (greater (unsigned_abs shape.row_total * unsigned_abs shape.discount.1 * unsigned_abs shape.discount.1) n (unsigned_abs r) (2 ^ 72) l
     (narrow-plain shape.row_total shape.discount.1 (max 1 (unsigned_abs r)) ld lq h.0.1)) h.1
-
-ceil-small : (n room : ℕ) → 1 ≤ room → (n + room - 1) / room ≤ n
-ceil-small n room some = let below = div_below (n + room - 1) room (suc n) some (omega (arith, mul-le-mul_left n some)) in omega arith
 
 fold-small : (rewards : List ℤ) (n : ℕ) → n ≤ 2 ^ 30 → AllByRecursion (λ r. IsRewardInRange r × Unit {0}) rewards → fold (λ most r. max most (unsigned_abs r)) n rewards ≤ 2 ^ 30
 fold-small [] n l h = l

@@ -6,6 +6,7 @@ use Rattle.std.specs.Int.{IsGcd, ◌∣◌}
 use Rattle.std.proofs.lemmas.List.{take_more}
 use Rattle.std.proofs.lemmas.Nat.Gcd.{IsGcd-from_zero, IsGcd-from_mod, dvd_trans}
 use Rattle.scaled_num.proofs.Sums.{each-append}
+use Rattle.scaled_num.proofs.Each.{each-front, each-back}
 
 pub IsGcd-from_one : (a b : ℕ) → b ≡ 1 → IsGcd a b 1
 IsGcd-from_one a b e = subst (λ (n : ℕ). IsGcd a n 1) (sym e) (IsGcd-from_mod a 1 1 (IsGcd-from_zero 1 (a % 1) (omega arith)))
@@ -22,14 +23,6 @@ pub record DivisorSoFar (numbers : List ℤ) (i divisor : ℕ) : Type 0 where
 divides-less : (d e : ℕ) (xs : List ℤ) → d ∣ e → AllByRecursion (Divides e) xs → AllByRecursion (Divides d) xs
 divides-less d e [] h all = tt
 divides-less d e (x ∷ xs) h all = (dvd_trans d h all.0, divides-less d e xs h all.1)
-
-each-front : {X : Type 0} (P : X → Type 0) (xs ys : List X) → AllByRecursion P (xs ++ ys) → AllByRecursion P xs
-each-front P [] ys h = tt
-each-front P (x ∷ xs) ys h = (h.0, each-front P xs ys h.1)
-
-each-back : {X : Type 0} (P : X → Type 0) (xs ys : List X) → AllByRecursion P (xs ++ ys) → AllByRecursion P ys
-each-back P [] ys h = h
-each-back P (x ∷ xs) ys h = each-back P xs ys h.1
 
 pub next-divisor : (numbers : List ℤ) (i : ℕ) (x : ℤ) (divisor g : ℕ) → i < length numbers → DivisorSoFar numbers i divisor →
     IsGcd divisor (unsigned_abs (get_or numbers i x)) g → DivisorSoFar numbers (i + 1) g

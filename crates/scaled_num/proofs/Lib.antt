@@ -1,6 +1,7 @@
 pub mod Ring
 pub mod Products
 pub mod Sums
+pub mod Each
 pub mod Quotient
 pub mod Places
 pub mod Divisors

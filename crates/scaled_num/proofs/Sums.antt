@@ -144,3 +144,31 @@ total-swap f (x ∷ xs) ys = ap (λ z. total (λ y. f x y) ys +ℤ z) (total-swa
 
 pub sum_by-map : {X Y : Type 0} (f : Y → ℕ) (g : X → Y) (xs : List X) → sum_by f (map g xs) ≡ sum_by (λ x. f (g x)) xs
 sum_by-map f g xs = ap up (sym (total-pos f (map g xs)) ∙ total-map (λ y. pos (f y)) g xs ∙ total-pos (λ x. f (g x)) xs)
+
+pub sum_by-same : {X : Type 0} (f g : X → ℕ) (xs : List X) → ((x : X) → f x ≡ g x) → sum_by f xs ≡ sum_by g xs
+sum_by-same f g [] h = refl
+sum_by-same f g (x ∷ xs) h = omega (arith, sum_by-cons f x xs, sum_by-cons g x xs, h x, sum_by-same f g xs h)
+
+-- one term more
+
+pub total-range-more : (f : ℕ → ℤ) (a n : ℕ) → total f (range_with_len a (suc n)) ≡ total f (range_with_len a n) +ℤ f (a + n)
+total-range-more f a zero = one (f a) ∙ ap (λ (k : ℕ). pos 0 +ℤ f k) (same a)
+  where
+    one : (z : ℤ) → z +ℤ pos 0 ≡ pos 0 +ℤ z
+    one z = omega (arith, ints)
+
+    same : (a : ℕ) → a ≡ a + 0
+    same a = omega arith
+total-range-more f a (suc n) = ap (λ (z : ℤ). f a +ℤ z) (total-range-more f (a + 1) n ∙ ap (λ (k : ℕ). total f (range_with_len (a + 1) n) +ℤ f k) (same a n)) ∙ regroup (f a) (total f (range_with_len (a + 1) n)) (f (a + suc n))
+  where
+    same : (a n : ℕ) → a + 1 + n ≡ a + suc n
+    same a n = omega arith
+
+    regroup : (x y z : ℤ) → x +ℤ (y +ℤ z) ≡ x +ℤ y +ℤ z
+    regroup x y z = omega (arith, ints)
+
+pub total-below-more : (f : ℕ → ℤ) (n : ℕ) → total f (below (n + 1)) ≡ total f (below n) +ℤ f n
+total-below-more f n = rw (add-one n) (total-range-more f 0 n ∙ ap (λ (k : ℕ). total f (below n) +ℤ f k) (same n))
+  where
+    same : (n : ℕ) → 0 + n ≡ n
+    same n = omega arith

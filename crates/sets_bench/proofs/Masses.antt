@@ -7,8 +7,8 @@ use Rattle.std.proofs.lemmas.Int.{ints, fits_signed_from_abs}
 use Rattle.scaled_num.specs.Sums.{sum_of}
 use Rattle.scaled_num.proofs.Sums.{each-at}
 use Rattle.game_model.proofs.Sizes.{total-more}
-use Rattle.game_model.proofs.Front.{each-by-place}
 use Rattle.game_model.specs.Game.{GameData, IsGame, IsMass, IsWithin}
+use Rattle.scaled_num.proofs.Each.{each-by-place}
 
 pub record MassSoFar (mass : List ℤ) (i : ℕ) (sum : ℤ) : Type 0 where
   pub is : sum ≡ sum_of (take i mass)

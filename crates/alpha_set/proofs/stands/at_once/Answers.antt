@@ -6,11 +6,11 @@ use Rattle.std.proofs.lemmas.Nat.{mul-le}
 use Rattle.scaled_num.proofs.Sums.{each-at, total-below}
 use Rattle.scaled_num.specs.Sums.{below, total}
 use Rattle.game_model.specs.Game.{GameData, IsWithin, reward_at}
-use Rattle.game_model.proofs.Ceil.{magnitude-is}
 use Rattle.game_model.proofs.Games.{reward-in}
 use Rattle.game_model.proofs.Width.{reward_small}
 use Rattle.alpha_set.proofs.Totals.{Next, next}
 use Rattle.alpha_set.proofs.stands.at_once.Goals as goal
+use Rattle.scaled_num.proofs.Products.{magnitude-is}
 
 record Fits (c : goal.After-reward) : Type 0 where
   weight : FitsSigned w128 (get_or c.args.mix.now c.loop-a.a (pos 0))

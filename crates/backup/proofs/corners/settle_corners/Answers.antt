@@ -3,8 +3,8 @@ use Rattle.std.specs.Prelude.{ℤ, slice_index_or}
 use Rattle.scaled_num.specs.Share.{at}
 use Rattle.game_model.specs.Game.{GameData, numbers, span}
 use Rattle.backup.specs.Seeds.{AreCornersAfter, IsReply}
-use Rattle.backup.proofs.Places.{each-places}
 use Rattle.backup.proofs.corners.settle_corners.Goals as goal
+use Rattle.scaled_num.proofs.Each.{each-by-place}
 
 pub returns : goal.returns
 returns c =
@@ -19,6 +19,6 @@ returns c =
       accepted = c.law_game.ensures.accepted;
       long = c.round.ensures.bounded.long;
       count = count;
-      informed = each-places (λ d. d < g.shape.informed_actions) 0 replies (λ s l. (replied s (subst (λ (n : ℕ). s < n) count l)).informed);
+      informed = each-by-place (λ d. d < g.shape.informed_actions) 0 replies (λ s l. (replied s (subst (λ (n : ℕ). s < n) count l)).informed);
       corners = record { old = at c.settle.new.values; before = before; last = replied };
     }

@@ -6,13 +6,13 @@ use Rattle.std.proofs.lemmas.Nat.{mul-le}
 use Rattle.scaled_num.specs.Sums.{below}
 use Rattle.game_model.specs.Game.{GameData, row_at, weight_in}
 use Rattle.game_model.specs.declared.parts.Landing.{Landing}
-use Rattle.game_model.proofs.Ceil.{magnitude-is}
 use Rattle.belief.specs.Beliefs.{mix_weight}
 use Rattle.belief.specs.Masses.{AreLandings}
 use Rattle.belief.specs.Mixes.{MixesData}
 use Rattle.belief.proofs.Landings.{row-landings}
 use Rattle.belief.proofs.Sums.{from-none, from_state-small, grown, magnitude-small, mix-small, next-action}
 use Rattle.belief.proofs.masses.add_state.Goals as goal
+use Rattle.scaled_num.proofs.Products.{magnitude-is}
 
 pub returns-then-weight-eq0 : goal.returns-then-weight-eq0
 returns-then-weight-eq0 c =

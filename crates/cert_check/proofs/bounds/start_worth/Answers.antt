@@ -4,7 +4,7 @@ use Rattle.std.specs.List.{AllByRecursion}
 use Rattle.std.specs.Int.{w128}
 use Rattle.std.proofs.lemmas.Int.{to_z-of_z}
 use Rattle.scaled_num.specs.Sums.{below, total}
-use Rattle.scaled_num.proofs.Sums.{each-from}
+use Rattle.game_model.proofs.Pay.{each-from}
 use Rattle.game_model.specs.Game.{GameData, first_at}
 use Rattle.alpha_set.specs.Nodes.{NodeData, no_node}
 use Rattle.controller.specs.Certificates.{CertificateData}

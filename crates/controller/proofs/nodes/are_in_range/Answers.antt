@@ -1,11 +1,11 @@
 use Rattle.std.proofs.Common.{arith, rules}
 use Rattle.std.specs.Prelude.{pos}
-use Rattle.game_model.proofs.Front.{each-by-place}
 use Rattle.game_model.specs.Game.{numbers}
 use Rattle.game_model.specs.Branches.{IsBranch, mix_total}
 use Rattle.alpha_set.specs.Members.{branch_of}
 use Rattle.alpha_set.specs.declared.nodes.Step.{Step}
 use Rattle.controller.proofs.nodes.are_in_range.Goals as goal
+use Rattle.scaled_num.proofs.Each.{each-by-place}
 
 pub returns : goal.returns
 returns c = (

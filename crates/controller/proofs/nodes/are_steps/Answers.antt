@@ -2,15 +2,16 @@ use Rattle.std.specs.Prelude.{pos}
 use Rattle.game_model.specs.Game.{numbers}
 use Rattle.game_model.specs.Branches.{IsBranch, mix_total}
 use Rattle.alpha_set.specs.Members.{branch_of}
-use Rattle.controller.proofs.Lists.{each-mapped, each-unmapped}
 use Rattle.controller.proofs.nodes.are_steps.Goals as goal
+use Rattle.scaled_num.proofs.Each.{each-of-map}
+use Rattle.scaled_num.proofs.Sums.{each-map}
 
 pub returns-then-are_rising : goal.returns-then-are_rising
 returns-then-are_rising c =
     let In = IsBranch (numbers c.args.game.now) c.args.count (pos mix_total) in (
       λ t. record {
         rising = c.are_rising.ensures.0 c.if-are_rising.true;
-        each = each-mapped In branch_of c.args.next.now (c.are_in_range.ensures.0 t);
+        each = each-map In branch_of c.args.next.now (c.are_in_range.ensures.0 t);
       },
-      λ h. c.are_in_range.ensures.1 (each-unmapped In branch_of c.args.next.now h.each),
+      λ h. c.are_in_range.ensures.1 (each-of-map In branch_of c.args.next.now h.each),
     )

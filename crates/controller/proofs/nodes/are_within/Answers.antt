@@ -2,9 +2,9 @@ use Rattle.std.proofs.Common.{arith, rules}
 use Rattle.std.specs.Prelude.{pos, FitsSigned}
 use Rattle.std.specs.Int.{w128}
 use Rattle.std.proofs.lemmas.Int.{to_z-of_z}
-use Rattle.game_model.proofs.Front.{each-by-place}
 use Rattle.game_model.specs.Game.{IsWithin}
 use Rattle.controller.proofs.nodes.are_within.Goals as goal
+use Rattle.scaled_num.proofs.Each.{each-by-place}
 
 pub returns : goal.returns
 returns c =

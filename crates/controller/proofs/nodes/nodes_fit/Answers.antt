@@ -1,7 +1,7 @@
 use Rattle.std.proofs.Common.{arith, length, rules}
 use Rattle.alpha_set.specs.Nodes.{NodeFits, no_node}
-use Rattle.game_model.proofs.Front.{each-by-place}
 use Rattle.controller.proofs.nodes.nodes_fit.Goals as goal
+use Rattle.scaled_num.proofs.Each.{each-by-place}
 
 pub returns : goal.returns
 returns c = (

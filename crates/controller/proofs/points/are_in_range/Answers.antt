@@ -1,12 +1,12 @@
 use Rattle.std.proofs.Common.{arith, rules}
 use Rattle.std.specs.Prelude.{pos}
-use Rattle.game_model.proofs.Front.{each-by-place}
 use Rattle.game_model.specs.Game.{numbers}
 use Rattle.game_model.specs.Branches.{IsBranch}
 use Rattle.point_set.specs.Points.{most_share}
 use Rattle.point_set.specs.Members.{branch_of}
 use Rattle.point_set.specs.declared.points.Share.{Share}
 use Rattle.controller.proofs.points.are_in_range.Goals as goal
+use Rattle.scaled_num.proofs.Each.{each-by-place}
 
 pub returns : goal.returns
 returns c = (

@@ -1,7 +1,7 @@
 use Rattle.std.proofs.Common.{ℕ, arith, below_more, length, get_or, rules, subst}
 use Rattle.point_set.specs.Points.{PointData, PointFits, no_point}
-use Rattle.game_model.proofs.Front.{each-by-place}
 use Rattle.controller.proofs.points.points_fit.Goals as goal
+use Rattle.scaled_num.proofs.Each.{each-by-place}
 
 pub loop-j-preserved : goal.loop-j-preserved
 loop-j-preserved c =

@@ -5,9 +5,9 @@ use Rattle.std.proofs.lemmas.Int.{to_z-of_z}
 use Rattle.game_model.specs.Bounds.{IsWithinSpan}
 use Rattle.game_model.specs.Game.{GameData, numbers}
 use Rattle.game_model.specs.Seeds.{IsLeastFloor}
-use Rattle.game_model.proofs.Front.{each-by-place}
 use Rattle.game_model.proofs.Least.{written}
 use Rattle.game_model.proofs.seeds.round.Goals as goal
+use Rattle.scaled_num.proofs.Each.{each-by-place}
 
 pub loop-s-preserved : goal.loop-s-preserved
 loop-s-preserved c =

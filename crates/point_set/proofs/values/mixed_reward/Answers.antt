@@ -3,13 +3,13 @@ use Rattle.std.specs.Prelude.{ℤ, pos, ◌*ℤ◌, unsigned_abs}
 use Rattle.std.proofs.lemmas.Int.{to_z-of_z}
 use Rattle.std.proofs.lemmas.Nat.{mul-le}
 use Rattle.game_model.specs.Game.{reward_at}
-use Rattle.game_model.proofs.Ceil.{magnitude-is}
 use Rattle.game_model.proofs.Games.{reward-in}
 use Rattle.game_model.proofs.Width.{reward_small}
 use Rattle.belief.specs.Beliefs.{mix_weight}
 use Rattle.belief.proofs.Sums.{magnitude-small}
 use Rattle.point_set.proofs.Running.{next-product}
 use Rattle.point_set.proofs.values.mixed_reward.Goals as goal
+use Rattle.scaled_num.proofs.Products.{magnitude-is}
 
 pub overflow_mul-sum : goal.overflow_mul-sum
 overflow_mul-sum c =

@@ -4,12 +4,12 @@ use Rattle.std.proofs.lemmas.Int.{to_z-of_z}
 use Rattle.std.proofs.lemmas.Nat.{mul-le}
 use Rattle.scaled_num.proofs.Sums.{each-at}
 use Rattle.game_model.specs.Game.{IsWithin}
-use Rattle.game_model.proofs.Ceil.{magnitude-is}
 use Rattle.belief.specs.Beliefs.{weight_at}
 use Rattle.belief.proofs.Sums.{magnitude-small}
 use Rattle.point_set.specs.Members.{row_rewards}
 use Rattle.point_set.proofs.Running.{next-product}
 use Rattle.point_set.proofs.values.rewards.Goals as goal
+use Rattle.scaled_num.proofs.Products.{magnitude-is}
 
 pub overflow_mul-sum : goal.overflow_mul-sum
 overflow_mul-sum c =
