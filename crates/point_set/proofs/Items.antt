@@ -9,7 +9,7 @@ use Rattle.std.proofs.lemmas.List.Sums.{sum_by-cons}
 use Rattle.scaled_num.specs.Share.{at}
 use Rattle.scaled_num.specs.Sums.{sum_of, total}
 use Rattle.scaled_num.proofs.Products.{add-mulℤ, sums}
-use Rattle.scaled_num.proofs.Floors.{at_le_sum, product_none_negative}
+use Rattle.scaled_num.proofs.Floors.{All-from_recursion, at_le_sum, product_none_negative}
 use Rattle.scaled_num.proofs.Sums.{each-at}
 use Rattle.game_model.proofs.Pay.{each-from}
 use Rattle.game_model.specs.Game.{IsBelief, IsWithin}
@@ -198,9 +198,6 @@ one-of f d [] i h l = absurd (omega arith)
 one-of f d (x ∷ xs) zero h l = omega (arith, ints, none-negative f xs h.1)
 one-of f d (x ∷ xs) (suc i) h l = omega (arith, ints, h.0, one-of f d xs i h.1 (omega arith))
 
-pub by-recursion : (P : ℤ → Type 0) (xs : List ℤ) → AllByRecursion P xs → (k : ℕ) (d : ℤ) → k < length xs → P (get_or xs k d)
-by-recursion P xs h k d l = each-at P d xs k h l
-
 -- weight at least 0 times something at least 1
 pub at-least : (a b : ℤ) → pos 0 ≤ℤ a → pos 1 ≤ℤ b → a ≤ℤ (a *ℤ b)
 at-least (pos n) (pos (suc m)) p q = omega (arith, ints)
@@ -231,7 +228,7 @@ items-most points mass left items beliefs none rest h = each-by-place (λ (item 
     term (get_or items j (0, pos 0)) s here (each-at (λ (x : ℕ × ℤ). x.0 < length points) (0, pos 0) items j h.inside m) (each-at (λ (x : ℕ × ℤ). pos 1 ≤ℤ x.1) (0, pos 0) items j h.positive m)) in
     chain item.1 (f item) (total f items) (left s) (at mass s) (sum_of mass)
     (at-least item.1 (at (point_at points item.0).belief s) (low item.1 some) place.2) (one-of f (0, pos 0) items i each l) (rest s here) (h.made s here)
-    (at_le_sum mass s (by-recursion (λ x. pos 0 ≤ℤ x) mass none) here))
+    (at_le_sum mass s (All-from_recursion (λ x. pos 0 ≤ℤ x) mass none) here))
   where
     low : (a : ℤ) → pos 1 ≤ℤ a → pos 0 ≤ℤ a
     low a p = omega (arith, ints)
@@ -240,7 +237,7 @@ items-most points mass left items beliefs none rest h = each-by-place (λ (item 
     term x s here inside some =
         let belief = belief-at (length mass) points x.0 beliefs inside in
         product_none_negative x.1 (at (point_at points x.0).belief s) (low x.1 some)
-        (by-recursion (λ y. pos 0 ≤ℤ y) (point_at points x.0).belief (parts-none-negative (length mass) (point_at points x.0).belief belief) s (pos 0) (subst (λ (n : ℕ). s < n) (sym belief.long) here))
+        (All-from_recursion (λ y. pos 0 ≤ℤ y) (point_at points x.0).belief (parts-none-negative (length mass) (point_at points x.0).belief belief) s (pos 0) (subst (λ (n : ℕ). s < n) (sym belief.long) here))
 
     chain : (a b c d e m : ℤ) → a ≤ℤ b → b ≤ℤ c → pos 0 ≤ℤ d → c +ℤ d ≡ e → e ≤ℤ m → a ≤ℤ m
     chain a b c d e m p q r t u = omega (arith, ints)

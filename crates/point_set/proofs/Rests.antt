@@ -2,7 +2,7 @@
 use Rattle.std.proofs.Common.{◌≡◌, ℕ, zero, suc, ◌+◌, ◌*◌, ◌^◌, ◌<◌, ◌≤◌, Bool, true, false, not, cond, ◌==◌, ltb, List, [], ◌∷◌, length, get_or, replicate, filter, refl, ap, arith, add-one, sym, subst, ◌∙◌, inl, inr, ◌⊎◌}
 use Rattle.std.specs.Prelude.{ℤ, pos, negsuc, ◌+ℤ◌, ◌*ℤ◌, ◌≤ℤ◌, count_by, FitsSigned}
 use Rattle.std.specs.Int.{w128}
-use Rattle.scaled_num.proofs.Floors.{small_fits}
+use Rattle.scaled_num.proofs.Floors.{All-from_recursion, small_fits}
 use Rattle.std.specs.Int.Signed.{lt_z}
 use Rattle.std.specs.List.{AllByRecursion}
 use Rattle.std.proofs.lemmas.Bool.{le-ltb, lt-ltb}
@@ -23,7 +23,7 @@ use Rattle.point_set.specs.Sawtooth.{AreCorners}
 use Rattle.point_set.specs.Split.{AreRisingPairs, is_corner, weight_of}
 use Rattle.point_set.specs.Takes.{AreBeliefs, AreItems, IsSmall, inserted, others, with_rests}
 use Rattle.point_set.proofs.Counted.{few-items, others-inserted, same-corner}
-use Rattle.point_set.proofs.Items.{add-item, belief-at, by-recursion, each-grown, rising-inserted, same-items, weight-inserted}
+use Rattle.point_set.proofs.Items.{add-item, belief-at, each-grown, rising-inserted, same-items, weight-inserted}
 use Rattle.point_set.proofs.Masses.{sum-below-same}
 use Rattle.scaled_num.proofs.Sums.{total-below-more}
 
@@ -120,7 +120,7 @@ rests-upto : (corners : ℕ → ℕ) (rest : List ℤ) (items : List (ℕ × ℤ
 rests-upto corners rest items zero l h k = each-from (λ (item : ℕ × ℤ). IsWithin (pos 0) (pos (2 ^ 66)) item.1) (IsUpTo 0) items (λ x w. (w.0, w.1)) h
 rests-upto corners rest items (suc n) l h k =
     let before = rests-upto corners rest items n (omega arith) h k in
-    let w = by-recursion (IsWithin (pos 0) (pos (2 ^ 66))) rest k n (pos 0) (omega arith) in
+    let w = All-from_recursion (IsWithin (pos 0) (pos (2 ^ 66))) rest k n (pos 0) (omega arith) in
     rests-cases (AllByRecursion (IsUpTo (suc n))) corners rest items n
     (λ some. each-grown (IsUpTo n) (IsUpTo (suc n)) (corners n) (at rest n) (with_rests corners rest items n) (λ x u. more-upto n x u) before
     (w.0, once (at rest n) n w.1)
@@ -224,7 +224,7 @@ rests-made points mass rest corners items (suc n) beliefs current none long l h 
     (λ some. add-item points mass (left_from rest n) (left_from rest (suc n)) (with_rests corners rest items n) (corners n) (at rest n) before some here.inside
     (λ s m. given-next rest (length mass) n s (omega arith) m ∙ ap (λ (xs : List ℤ). left_from rest (suc n) s +ℤ at rest n *ℤ at xs s) (sym belief)))
     (λ high. same-items points mass (left_from rest n) (left_from rest (suc n)) (with_rests corners rest items n) before
-    (λ s m. given-nothing rest n s (by-recursion (λ x. pos 0 ≤ℤ x) rest none n (pos 0) (omega arith)) high))
+    (λ s m. given-nothing rest n s (All-from_recursion (λ x. pos 0 ≤ℤ x) rest none n (pos 0) (omega arith)) high))
 
 pub rests-weigh : (corners : ℕ → ℕ) (rest : List ℤ) (items : List (ℕ × ℤ)) (n k : ℕ) → AllByRecursion (λ x. pos 0 ≤ℤ x) rest → n ≤ length rest →
     weight_of (with_rests corners rest items n) k ≡ weight_of items k +ℤ total (λ s. cond (corners s == k) (at rest s) (pos 0)) (below n)
@@ -238,7 +238,7 @@ rests-weigh corners rest items (suc n) k none l =
     let more : total f (below (suc n)) ≡ total f (below n) +ℤ f n = ap (λ (m : ℕ). total f (below m)) (sym (add-one n)) ∙ total-below-more f n in
     rests-cases (λ xs. weight_of xs k ≡ weight_of items k +ℤ (total f (below n) +ℤ f n)) corners rest items n
     (λ some. weight-inserted (corners n) (at rest n) (with_rests corners rest items n) k ∙ ap (λ z. z +ℤ f n) before ∙ regroup (weight_of items k) (total f (below n)) (f n))
-    (λ high. before ∙ regroup-none (weight_of items k) (total f (below n)) (f n) (nothing (corners n == k) (at rest n) (by-recursion (λ x. pos 0 ≤ℤ x) rest none n (pos 0) (omega arith)) high))
+    (λ high. before ∙ regroup-none (weight_of items k) (total f (below n)) (f n) (nothing (corners n == k) (at rest n) (All-from_recursion (λ x. pos 0 ≤ℤ x) rest none n (pos 0) (omega arith)) high))
     ∙ ap (λ z. weight_of items k +ℤ z) (sym more)
   where
     regroup : (a b c : ℤ) → (a +ℤ b) +ℤ c ≡ a +ℤ (b +ℤ c)
@@ -258,7 +258,7 @@ pub rests-end : (rest : List ℤ) (n s : ℕ) → s < n → left_from rest n s �
 rests-end rest n s l = left-none rest n s l
 
 pub part-fits : (rest : List ℤ) (s : ℕ) → AllByRecursion (IsWithin (pos 0) (pos (2 ^ 66))) rest → s < length rest → FitsSigned w128 (at rest s)
-part-fits rest s h l = let w = by-recursion (IsWithin (pos 0) (pos (2 ^ 66))) rest h s (pos 0) l in small_fits (at rest s) w.0 (wide (at rest s) w.1)
+part-fits rest s h l = let w = All-from_recursion (IsWithin (pos 0) (pos (2 ^ 66))) rest h s (pos 0) l in small_fits (at rest s) w.0 (wide (at rest s) w.1)
   where
     wide : (a : ℤ) → a ≤ℤ pos (2 ^ 66) → a ≤ℤ pos (2 ^ 126)
     wide a h = omega (arith, ints)

@@ -5,7 +5,7 @@ use Rattle.std.specs.List.{AllByRecursion}
 use Rattle.std.proofs.lemmas.Int.{ints}
 use Rattle.scaled_num.specs.Share.{IsShared, at}
 use Rattle.scaled_num.specs.Sums.{below, sum_of, total}
-use Rattle.scaled_num.proofs.Floors.{at_le_sum, sum-none_negative}
+use Rattle.scaled_num.proofs.Floors.{All-from_recursion, at_le_sum, sum-none_negative}
 use Rattle.scaled_num.proofs.Products.{sums}
 use Rattle.scaled_num.proofs.Sums.{each-at}
 use Rattle.game_model.proofs.Pay.{each-from}
@@ -17,7 +17,7 @@ use Rattle.point_set.specs.Sawtooth.{AreCorners, AreMeasured}
 use Rattle.point_set.specs.Split.{IsSplit, IsWanted, MakesUp}
 use Rattle.point_set.specs.Takes.{AreBeliefs, AreItems, AreTaken, others, with_rests}
 use Rattle.point_set.proofs.Counted.{few-items}
-use Rattle.point_set.proofs.Items.{by-recursion, items-most}
+use Rattle.point_set.proofs.Items.{items-most}
 use Rattle.point_set.proofs.Rests.{left_from, rests-end, rests-made, rests-weigh, same-corners, same-others}
 use Rattle.scaled_num.proofs.Each.{each-by-place}
 
@@ -48,7 +48,7 @@ corners-few points states wanted items corners h current few =
 pub items-within : (points : List PointData) (mass rest : List ℤ) (items : List (ℕ × ℤ)) → AreBeliefs (length mass) points → AllByRecursion (λ x. pos 0 ≤ℤ x) mass → AllByRecursion (λ x. pos 0 ≤ℤ x) rest → length rest ≡ length mass →
     sum_of mass ≤ℤ pos (2 ^ 66) → AreItems points mass (at rest) items → AllByRecursion (λ item. IsWithin (pos 0) (pos (2 ^ 66)) item.1) items
 items-within points mass rest items beliefs none left long sum h =
-    let light = items-most points mass (at rest) items beliefs none (λ s l. by-recursion (λ x. pos 0 ≤ℤ x) rest left s (pos 0) (subst (λ (n : ℕ). s < n) (sym long) l)) h in
+    let light = items-most points mass (at rest) items beliefs none (λ s l. All-from_recursion (λ x. pos 0 ≤ℤ x) rest left s (pos 0) (subst (λ (n : ℕ). s < n) (sym long) l)) h in
     each-by-place (λ (item : ℕ × ℤ). IsWithin (pos 0) (pos (2 ^ 66)) item.1) (0, pos 0) items (λ j l.
     within (get_or items j (0, pos 0)).1 (sum_of mass) (each-at (λ (item : ℕ × ℤ). pos 1 ≤ℤ item.1) (0, pos 0) items j h.positive l) (each-at (λ (item : ℕ × ℤ). item.1 ≤ℤ sum_of mass) (0, pos 0) items j light l) sum)
   where
@@ -57,8 +57,8 @@ items-within points mass rest items beliefs none left long sum h =
 
 pub rest-within : (mass rest : List ℤ) → AllByRecursion (λ x. pos 0 ≤ℤ x) rest → sum_of rest ≤ℤ sum_of mass → sum_of mass ≤ℤ pos (2 ^ 66) → AllByRecursion (IsWithin (pos 0) (pos (2 ^ 66))) rest
 rest-within mass rest none less sum = each-by-place (IsWithin (pos 0) (pos (2 ^ 66))) (pos 0) rest (λ s l.
-    let low : pos 0 ≤ℤ at rest s = by-recursion (λ x. pos 0 ≤ℤ x) rest none s (pos 0) l in
-    (low, through (at rest s) (sum_of rest) (sum_of mass) (pos (2 ^ 66)) (at_le_sum rest s (by-recursion (λ x. pos 0 ≤ℤ x) rest none) l) less sum))
+    let low : pos 0 ≤ℤ at rest s = All-from_recursion (λ x. pos 0 ≤ℤ x) rest none s (pos 0) l in
+    (low, through (at rest s) (sum_of rest) (sum_of mass) (pos (2 ^ 66)) (at_le_sum rest s (All-from_recursion (λ x. pos 0 ≤ℤ x) rest none) l) less sum))
   where
     through : (a b c d : ℤ) → a ≤ℤ b → b ≤ℤ c → c ≤ℤ d → a ≤ℤ d
     through a b c d p q r = omega (arith, ints)
@@ -108,7 +108,7 @@ done points wanted mass shares rest items corners beliefs whole current shared t
     zero-low = omega (arith, ints)
 
 pub sum-within : (points : List PointData) (mass : List ℤ) → AreMeasured points mass → IsWithin (pos 0) (pos (2 ^ 66)) (sum_of mass)
-sum-within points mass m = (sum-none_negative mass (by-recursion (λ x. pos 0 ≤ℤ x) mass m.right.each), measured-sum points mass m)
+sum-within points mass m = (sum-none_negative mass (All-from_recursion (λ x. pos 0 ≤ℤ x) mass m.right.each), measured-sum points mass m)
 
 -- the same where the mass was copied first
 pub done-by-copy : (points : List PointData) (wanted : List (ℕ × ℤ)) (mass copy shares rest : List ℤ) (items out : List (ℕ × ℤ)) (corners : ℕ → ℕ) (n : ℕ) (sum : ℤ) → AreMeasured points mass → AreCorners points (length mass) corners →

@@ -9,7 +9,7 @@ use Rattle.std.proofs.lemmas.List.{ext_get_or, get_or-set_other, get_or-set_same
 use Rattle.std.proofs.lemmas.List.FromFn.{get_or-map-range_with_len, length-map-range_with_len}
 use Rattle.scaled_num.specs.Share.{at}
 use Rattle.scaled_num.specs.Sums.{below, sum_of, total}
-use Rattle.scaled_num.proofs.Floors.{NoneNegative, at_le_sum, cancel, product_le, product_none_negative, small_fits}
+use Rattle.scaled_num.proofs.Floors.{All-from_recursion, NoneNegative, at_le_sum, cancel, product_le, product_none_negative, small_fits}
 use Rattle.scaled_num.proofs.Products.{add-mulℤ, sums}
 use Rattle.scaled_num.proofs.Sums.{each-at, each-map, total-append, total-below-le, total-places}
 use Rattle.game_model.proofs.Pay.{each-from}
@@ -19,7 +19,7 @@ use Rattle.point_set.specs.Points.{PointData}
 use Rattle.point_set.specs.Sawtooth.{FitsTimes, IsMostTimes}
 use Rattle.point_set.specs.Split.{AreTakes, Take, TakesMost, less_times, weight_of}
 use Rattle.point_set.specs.Takes.{AreTaken, IsLesser}
-use Rattle.point_set.proofs.Items.{at-least, by-recursion, has-weight, parts-none-negative}
+use Rattle.point_set.proofs.Items.{at-least, has-weight, parts-none-negative}
 use Rattle.scaled_num.proofs.Each.{each-by-place}
 
 pub less-long : (mass belief : List ℤ) (times : ℤ) → length (less_times mass belief times) ≡ length mass
@@ -51,7 +51,7 @@ less-none-negative mass belief times fits = each-by-place (λ x. pos 0 ≤ℤ x)
     room a b h = omega (arith, ints)
 
 part-at : (belief : List ℤ) (states s : ℕ) → IsBelief states belief → s < states → pos 0 ≤ℤ at belief s
-part-at belief states s h l = by-recursion (λ x. pos 0 ≤ℤ x) belief (parts-none-negative states belief h) s (pos 0) (subst (λ (n : ℕ). s < n) (sym h.long) l)
+part-at belief states s h l = All-from_recursion (λ x. pos 0 ≤ℤ x) belief (parts-none-negative states belief h) s (pos 0) (subst (λ (n : ℕ). s < n) (sym h.long) l)
 
 pub less-sum : (mass belief : List ℤ) (times : ℤ) → IsBelief (length mass) belief → pos 0 ≤ℤ times → (sum_of (less_times mass belief times)) ≤ℤ (sum_of mass)
 less-sum mass belief times h low =
@@ -70,7 +70,7 @@ less-sum mass belief times h low =
 
 -- how often a belief fits
 none-fits : (mass belief : List ℤ) → AllByRecursion (λ x. pos 0 ≤ℤ x) mass → FitsTimes mass belief (pos 0)
-none-fits mass belief none s l = zero_times (at belief s) (at mass s) (by-recursion (λ x. pos 0 ≤ℤ x) mass none s (pos 0) l)
+none-fits mass belief none s l = zero_times (at belief s) (at mass s) (All-from_recursion (λ x. pos 0 ≤ℤ x) mass none s (pos 0) l)
   where
     zero_times : (b a : ℤ) → pos 0 ≤ℤ a → (pos 0 *ℤ b) ≤ℤ a
     zero_times b a p = omega (arith, ints)
@@ -83,7 +83,7 @@ times-most mass belief times h none low fits =
     let place = has-weight belief (parts-none-negative (length mass) belief h) h.sums.0 in
     let s : ℕ = place.0 in
     let here : s < length mass = subst (λ (n : ℕ). s < n) h.long place.1 in
-    through times (times *ℤ at belief s) (at mass s) (sum_of mass) (at-least times (at belief s) low place.2) (fits s here) (at_le_sum mass s (by-recursion (λ x. pos 0 ≤ℤ x) mass none) here)
+    through times (times *ℤ at belief s) (at mass s) (sum_of mass) (at-least times (at belief s) low place.2) (fits s here) (at_le_sum mass s (All-from_recursion (λ x. pos 0 ≤ℤ x) mass none) here)
   where
     through : (a b c d : ℤ) → a ≤ℤ b → b ≤ℤ c → c ≤ℤ d → a ≤ℤ d
     through a b c d p q r = omega (arith, ints)
@@ -276,8 +276,8 @@ pub place-fits : (mass belief : List ℤ) (times : ℤ) (i : ℕ) (rest : List �
 place-fits mass belief times i rest h none sum low fits so l =
     let here : i < length mass = subst (λ (n : ℕ). i < n) h.long l in
     let part = each-at (IsWithin (pos 0) (pos (2 ^ 20))) (pos 0) belief i h.each l in
-    let most : at mass i ≤ℤ pos (2 ^ 66) = through (at mass i) (sum_of mass) (pos (2 ^ 66)) (at_le_sum mass i (by-recursion (λ x. pos 0 ≤ℤ x) mass none) here) sum in
-    let floor : pos 0 ≤ℤ at mass i = by-recursion (λ x. pos 0 ≤ℤ x) mass none i (pos 0) here in
+    let most : at mass i ≤ℤ pos (2 ^ 66) = through (at mass i) (sum_of mass) (pos (2 ^ 66)) (at_le_sum mass i (All-from_recursion (λ x. pos 0 ≤ℤ x) mass none) here) sum in
+    let floor : pos 0 ≤ℤ at mass i = All-from_recursion (λ x. pos 0 ≤ℤ x) mass none i (pos 0) here in
     let product : pos 0 ≤ℤ (times *ℤ at belief i) = product_none_negative times (at belief i) low part.0 in
     let is : at rest i ≡ at mass i = so.after i (same i) in
     record {

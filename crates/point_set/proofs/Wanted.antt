@@ -7,7 +7,7 @@ use Rattle.std.proofs.lemmas.List.{map_more, take_more}
 use Rattle.std.proofs.lemmas.List.Filters.{length-filter_more}
 use Rattle.scaled_num.specs.Share.{at}
 use Rattle.scaled_num.specs.Sums.{sum_of}
-use Rattle.scaled_num.proofs.Floors.{at_le_sum}
+use Rattle.scaled_num.proofs.Floors.{All-from_recursion, at_le_sum}
 use Rattle.scaled_num.proofs.Products.{sums}
 use Rattle.scaled_num.proofs.Sums.{each-at}
 use Rattle.game_model.specs.Game.{IsBelief}
@@ -16,7 +16,7 @@ use Rattle.point_set.specs.Points.{PointData}
 use Rattle.point_set.specs.Split.{IsWanted, TakesMost, is_corner, less_times, weight_of}
 use Rattle.point_set.specs.Takes.{AreBeliefs, AreItems, AreTaken, IsSmall, inserted, others}
 use Rattle.point_set.proofs.Counted.{few-items, others-inserted}
-use Rattle.point_set.proofs.Items.{add-item, belief-at, by-recursion, items-most, no-items, rising-inserted, weight-inserted}
+use Rattle.point_set.proofs.Items.{add-item, belief-at, items-most, no-items, rising-inserted, weight-inserted}
 use Rattle.point_set.proofs.Taking.{less-at, less-long, less-none, less-none-negative, less-sum, no-takes, taken-more}
 use Rattle.scaled_num.proofs.Each.{each-by-place}
 
@@ -138,9 +138,9 @@ pub record WantedReady (points : List PointData) (rest : List ℤ) (items : List
 pub wanted-ready : (points : List PointData) (mass : List ℤ) (wanted : List (ℕ × ℤ)) (shares : List ℤ) (i : ℕ) (rest : List ℤ) (items : List (ℕ × ℤ)) → AreBeliefs (length mass) points →
     AllByRecursion (λ x. pos 0 ≤ℤ x) mass → sum_of mass ≤ℤ pos (2 ^ 66) → WantedSoFar points mass wanted shares i rest items → WantedReady points rest items
 wanted-ready points mass wanted shares i rest items beliefs none sum so =
-    let light = items-most points mass (at rest) items beliefs none (λ s l. by-recursion (λ x. pos 0 ≤ℤ x) rest so.none s (pos 0) (subst (λ (n : ℕ). s < n) (sym so.long) l)) so.listed in
+    let light = items-most points mass (at rest) items beliefs none (λ s l. All-from_recursion (λ x. pos 0 ≤ℤ x) rest so.none s (pos 0) (subst (λ (n : ℕ). s < n) (sym so.long) l)) so.listed in
     record {
-      small = each-by-place (λ x. x ≤ℤ pos (2 ^ 100)) (pos 0) rest (λ s l. narrow (at rest s) (sum_of rest) (sum_of mass) (at_le_sum rest s (by-recursion (λ x. pos 0 ≤ℤ x) rest so.none) l) so.sum sum);
+      small = each-by-place (λ x. x ≤ℤ pos (2 ^ 100)) (pos 0) rest (λ s l. narrow (at rest s) (sum_of rest) (sum_of mass) (at_le_sum rest s (All-from_recursion (λ x. pos 0 ≤ℤ x) rest so.none) l) so.sum sum);
       sum = through (sum_of rest) (sum_of mass) (pos (2 ^ 66)) so.sum sum;
       light = each-by-place (λ (item : ℕ × ℤ). IsSmall item.1) (0, pos 0) items (λ j l.
           let some : pos 1 ≤ℤ (get_or items j (0, pos 0)).1 = each-at (λ (item : ℕ × ℤ). pos 1 ≤ℤ item.1) (0, pos 0) items j so.listed.positive l in

@@ -9,8 +9,9 @@ ghost use Rattle.std.specs.List.{AllByRecursion};
 ghost use Rattle.std.specs.Prelude.{[], length, map, pos, slice_index_or, ℕ, ◌<◌, ◌^◌, ◌≡◌, ◌≤ℤ◌, ◌≤◌};
 
 use crate::points::Point;
-use crate::takes::{share_by, sum, take};
+use crate::takes::{share_by, take};
 use game_model::MOST_STATES;
+use scaled_num::sum;
 use std::marker::Model;
 
 /// The most items of a split: a corner for each state, and eight other points.

@@ -12,19 +12,6 @@ use crate::times::most_times;
 use belief::Belief;
 use scaled_num::{floor_div, take_share};
 
-/// The sum of a mass.
-pub fn sum(mass: &[i128]) -> i128
-    requires mass { AllByRecursion (λ x. pos 0 ≤ℤ x) mass.now }
-    requires most { sum_of mass.now ≤ℤ pos (2 ^ 66) }
-    ensures { result ≡ sum_of mass.now }
-{
-    let mut sum = 0;
-    for part in mass {
-        sum += *part;
-    }
-    sum
-}
-
 /// Shares a total by the weights of wanted points.
 pub fn share_by(wanted: &[(u32, i128)], total: i128, shares: &mut [i128])
     requires some { 1 ≤ length wanted.now }

@@ -3,8 +3,7 @@ use Rattle.std.specs.Prelude.{ℤ, pos, FitsSigned, ◌*ℤ◌, ◌≤ℤ◌}
 use Rattle.std.specs.Int.{w128}
 use Rattle.std.proofs.lemmas.Int.{ints, to_z-of_z}
 use Rattle.scaled_num.specs.Sums.{sum_of}
-use Rattle.scaled_num.proofs.Floors.{NoneNegative}
-use Rattle.point_set.proofs.Items.{by-recursion}
+use Rattle.scaled_num.proofs.Floors.{All-from_recursion, NoneNegative}
 use Rattle.point_set.proofs.Taking.{product-within, shares-within, weights-each, weights-sum}
 use Rattle.point_set.proofs.takes.share_by.Goals as goal
 
@@ -17,7 +16,7 @@ wide x h = omega (arith, ints)
 pub take_share-requires-clause-weights : goal.take_share-requires-clause-weights
 take_share-requires-clause-weights c =
     let weights : List ℤ = map (λ (want : ℕ × ℤ). want.1) c.args.wanted.now in
-    subst NoneNegative (sym c.copy_weights.ensures) (by-recursion (λ x. pos 0 ≤ℤ x) weights (weights-each c.args.wanted.now c.requires.weights))
+    subst NoneNegative (sym c.copy_weights.ensures) (All-from_recursion (λ x. pos 0 ≤ℤ x) weights (weights-each c.args.wanted.now c.requires.weights))
 
 pub take_share-requires-clause-sum : goal.take_share-requires-clause-sum
 take_share-requires-clause-sum c =
