@@ -2,13 +2,14 @@ ghost use Rattle.alpha_set.specs.Members.{branch_of, node_data};
 ghost use Rattle.alpha_set.specs.Nodes.{IsMix, NodeFits};
 ghost use Rattle.game_model.specs.Branches.{AreBranches, AreRising, IsBranch, IsBranchBefore, branches_at, mix_total};
 ghost use Rattle.game_model.specs.Game.{IsWithin, numbers, span};
-ghost use Rattle.scaled_num.specs.Sums.{sum_of, total};
+ghost use Rattle.scaled_num.specs.Sums.{total};
 ghost use Rattle.std.specs.Bool.{IsTrue};
 ghost use Rattle.std.specs.List.{AllByRecursion};
 ghost use Rattle.std.specs.Prelude.{if◌then◌else◌, length, map, pos, slice_index_or, ℕ, ◌&&◌, ◌<◌, ◌==◌, ◌↔◌, ◌≡◌};
 
 use alpha_set::{Node, NodeSet, Step};
 use game_model::{Game, MIX_TOTAL};
+use scaled_num::sum;
 
 /// Whether each node fits a game and names nodes of the set.
 pub fn nodes_fit(game: &Game, nodes: &NodeSet) -> bool
@@ -52,18 +53,6 @@ fn is_mix(game: &Game, mix: &[i128]) -> bool
     mix.len() == game.own_actions() as usize
         && are_within(mix, 0, MIX_TOTAL)
         && sum(mix) == MIX_TOTAL
-}
-
-/// The sum of the weights of a mix.
-fn sum(weights: &[i128]) -> i128
-    requires { AllByRecursion (IsWithin (pos 0) (pos mix_total)) weights.now }
-    ensures { result ≡ sum_of weights.now }
-{
-    let mut sum = 0;
-    for weight in weights {
-        sum += *weight;
-    }
-    sum
 }
 
 /// Whether the steps rise, and each is in range.
