@@ -5,6 +5,7 @@ use Rattle.std.specs.Fmt.{signed_decimal}
 use Rattle.std.specs.List.{AllByRecursion}
 use Rattle.std.proofs.lemmas.List.{append_cancel_right, length-reverse}
 use Rattle.text_words.specs.Lines.{Line, lines_of, after_lines}
+use Rattle.text_words.proofs.Numerals.{Small, small_within}
 use Rattle.text_words.proofs.Printed.{signed_decimal-above}
 use Rattle.text_words.proofs.Whole.{IsWord, IsWritten, lines_text, lines_of-front, lines_of-lines, after_lines-lines}
 use Rattle.game_model.specs.declared.parts.Shape.{Shape}
@@ -16,7 +17,7 @@ use Rattle.game_text.specs.Text.{scaled, text_of, IsTextOf}
 use Rattle.game_text.specs.Entries.{Entry, Version, Size, Total, Discount, First, Step, Out, End, shape_in}
 use Rattle.game_text.specs.Reading.{Reads, Accepts, Refuses, RefusesAlone, GoesOn}
 use Rattle.game_text.specs.Built.{rewards_in, onto_last, rows_in}
-use Rattle.game_text.proofs.Said.{words_in, name_in, numbers_in, Small, small_within, small_discount, small_weights, small_weight}
+use Rattle.game_text.proofs.Said.{words_in, name_in, numbers_in, small_discount, small_weights, small_weight}
 use Rattle.game_text.specs.Forms.{state_at, own_at, informed_at}
 use Rattle.game_text.proofs.Runs.{May, Run, outs, step_of, spelled, Good, say_run, run_say, shape_limits, open_before, open_row, shape_spelled}
 use Rattle.game_text.proofs.Spells.{Finished, finished, end_run, game_from, game_is, whole_back, game_again, rewards_back, rows_back, map_reverse, each_reverse}

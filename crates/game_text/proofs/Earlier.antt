@@ -1,17 +1,20 @@
 -- No line before the end is refused as one that follows it.
-use Rattle.std.proofs.Common.{◌≡◌, ℕ, ◌==◌, Bool, true, false, cond, ◌&&◌, ◌||◌, List, [], ◌∷◌, length, Option, Some, None, Result, Ok, Err, ℤ, pos, ap, ◌∙◌}
+use Rattle.std.proofs.Common.{◌≡◌, ℕ, ◌==◌, Bool, true, false, cond, ◌&&◌, ◌||◌, List, [], ◌∷◌, Option, Some, None, Result, Ok, Err, ℤ, pos, ap, ◌∙◌}
 use Rattle.std.specs.Prelude.{neg_ℤ, ◌+ℤ◌, ◌*ℤ◌, ◌^◌, max, unsigned_abs, int_le, int_lt, nat_lt, codes}
 use Rattle.std.specs.List.{list_all}
-use Rattle.std.specs.Option.{ok_or}
 use Rattle.std.specs.Str.{bytes_eq}
 use Rattle.scaled_num.specs.Sums.{sum_of}
 use Rattle.text_words.specs.Lines.{Line}
-use Rattle.text_words.specs.Numbers.{numbers_of}
+use Rattle.text_words.specs.Forms.{◌>>=◌, number_at, is_within, begins, limited, below_limit, each_within}
+use Rattle.text_words.specs.Forms as forms
+use Rattle.text_words.specs.declared.forms.NumbersFault.{NumbersFault}
+use Rattle.text_words.specs.declared.forms.NumbersFault.TheVariants as numbers
+use Rattle.text_words.proofs.Numerals.{by_kind, numbers_after-by_kind}
 use Rattle.game_model.specs.declared.parts.Shape.{Shape}
 use Rattle.game_model.specs.Game.{triples}
 use Rattle.game_text.specs.declared.fault.Kind.{Kind}
 use Rattle.game_text.specs.declared.fault.Kind.TheVariants as kinds
-use Rattle.game_text.specs.Forms.{◌>>=◌, number_at, is_within, limited, within, below_limit, numbers_said, numbers_after, begins, version_line, most_total, most_weight, discount_within, weights_within, total_within, state_at, own_at, informed_at, next_triple, full_row, narrow_reward, later_pair, fits_row}
+use Rattle.game_text.specs.Forms.{within, numbers_after, version_line, most_total, most_weight, discount_within, total_within, state_at, own_at, informed_at, next_triple, full_row, narrow_reward, later_pair, fits_row}
 use Rattle.game_text.specs.Entries.{Entry, Version, Size, Total, Discount, First, Step, Out, End, shape_in, begun_in, sum_in, entry_of, version_said, size_said, total_said, discount_said, first_said, step_said, out_said, end_said, row_end_said}
 use Rattle.game_text.specs.Reading.{line_at, IsUnfinished, Refuses}
 
@@ -72,15 +75,14 @@ wide_other h = cc
 missing_other : IsOther kinds.Missing
 missing_other h = cc
 
-never_some : (o : Option (List ℤ)) → Never (ok_or o kinds.Number)
-never_some None = never_fails kinds.Number number_other
-never_some (Some ns) = never_done ns
+never_kind : (r : Result (List ℤ) NumbersFault) → Never (by_kind kinds.Shape kinds.Number r)
+never_kind (Ok ns) = never_done ns
+never_kind (Err numbers.Shape) = never_fails kinds.Shape shape_other
+never_kind (Err numbers.Number) = never_fails kinds.Number number_other
+never_kind (Err numbers.OutOfMemory) = never_fails kinds.Shape shape_other
 
 never_numbers : (name : List ℕ) (count : ℕ) (line : Line) → Never (numbers_after name count line)
-unfolding numbers_after numbers_said
-never_numbers name count [] = never_fails kinds.Shape shape_other
-never_numbers name count (word ∷ words) =
-    never_choice (bytes_eq word name && (length words == count)) (ok_or (numbers_of words) kinds.Number) (failed kinds.Shape) (never_some (numbers_of words)) (never_fails kinds.Shape shape_other)
+never_numbers name count line = rw (numbers_after-by_kind kinds.Shape kinds.Number name count line) (never_kind (forms.numbers_after numbers.Shape numbers.Number name count line))
 
 never_version : (line : Line) → Never (version_line line)
 unfolding version_line
@@ -89,7 +91,7 @@ never_version (name ∷ []) = never_fails kinds.Version version_other
 never_version (name ∷ number ∷ []) = never_cond (bytes_eq name (codes "osposg") && bytes_eq number (codes "1")) tt kinds.Version version_other
 never_version (name ∷ number ∷ more ∷ words) = never_fails kinds.Version version_other
 
-never_limited : (low high x : ℤ) → Never (limited low high x)
+never_limited : (low high x : ℤ) → Never (limited kinds.Range low high x)
 unfolding limited
 never_limited low high x = never_cond (is_within low high x) x kinds.Range range_other
 
@@ -97,7 +99,7 @@ never_within : (low high : ℕ) (x : ℤ) → Never (within low high x)
 unfolding within
 never_within low high x = never_cond (is_within (pos low) (pos high) x) (unsigned_abs x) kinds.Range range_other
 
-never_below : (limit : ℕ) (x : ℤ) → Never (below_limit limit x)
+never_below : (limit : ℕ) (x : ℤ) → Never (below_limit kinds.Range limit x)
 unfolding below_limit
 never_below limit x = never_cond (int_le (pos 0) x && int_lt x (pos limit)) (unsigned_abs x) kinds.Range range_other
 
@@ -105,8 +107,8 @@ never_discount : (over under : ℤ) → Never (discount_within over under)
 unfolding discount_within
 never_discount over under = never_cond (int_le (pos 0) over && int_lt over under && int_le under (pos most_weight)) (over, under) kinds.Range range_other
 
-never_weights : (ns : List ℤ) → Never (weights_within ns)
-unfolding weights_within
+never_weights : (ns : List ℤ) → Never (each_within kinds.Range (pos 0) (pos most_weight) ns)
+unfolding each_within
 never_weights ns = never_cond (list_all (is_within (pos 0) (pos most_weight)) ns) tt kinds.Range range_other
 
 never_total : (ns : List ℤ) → Never (total_within ns)
@@ -138,10 +140,10 @@ never_step : (shape : Shape) (k : ℕ) (sum : ℤ) (line : Line) → Never (step
 unfolding step_said
 never_step shape k sum line =
     never_bind (numbers_after (codes "step") 4 line) _ (never_numbers (codes "step") 4 line) λ ns.
-    never_bind (below_limit shape.states (number_at ns 0)) _ (never_below shape.states (number_at ns 0)) λ s.
-    never_bind (below_limit shape.own_actions (number_at ns 1)) _ (never_below shape.own_actions (number_at ns 1)) λ a.
-    never_bind (below_limit shape.informed_actions (number_at ns 2)) _ (never_below shape.informed_actions (number_at ns 2)) λ c.
-    never_bind (limited (neg_ℤ (pos most_total)) (pos most_total) (number_at ns 3)) _ (never_limited (neg_ℤ (pos most_total)) (pos most_total) (number_at ns 3)) λ r.
+    never_bind (below_limit kinds.Range shape.states (number_at ns 0)) _ (never_below shape.states (number_at ns 0)) λ s.
+    never_bind (below_limit kinds.Range shape.own_actions (number_at ns 1)) _ (never_below shape.own_actions (number_at ns 1)) λ a.
+    never_bind (below_limit kinds.Range shape.informed_actions (number_at ns 2)) _ (never_below shape.informed_actions (number_at ns 2)) λ c.
+    never_bind (limited kinds.Range (neg_ℤ (pos most_total)) (pos most_total) (number_at ns 3)) _ (never_limited (neg_ℤ (pos most_total)) (pos most_total) (number_at ns 3)) λ r.
     never_bind (next_triple shape k s a c) _ (never_next shape k s a c) λ u.
     never_bind (full_row shape k sum) _ (never_full shape k sum) λ v.
     never_bind (narrow_reward shape r) _ (never_narrow shape r) λ w.
@@ -151,9 +153,9 @@ never_out : (shape : Shape) (sum : ℤ) (pair : Option (ℕ × ℕ)) (line : Lin
 unfolding out_said
 never_out shape sum pair line =
     never_bind (numbers_after (codes "out") 3 line) _ (never_numbers (codes "out") 3 line) λ ns.
-    never_bind (below_limit shape.observations (number_at ns 0)) _ (never_below shape.observations (number_at ns 0)) λ o.
-    never_bind (below_limit shape.states (number_at ns 1)) _ (never_below shape.states (number_at ns 1)) λ t.
-    never_bind (limited (pos 1) shape.row_total (number_at ns 2)) _ (never_limited (pos 1) shape.row_total (number_at ns 2)) λ m.
+    never_bind (below_limit kinds.Range shape.observations (number_at ns 0)) _ (never_below shape.observations (number_at ns 0)) λ o.
+    never_bind (below_limit kinds.Range shape.states (number_at ns 1)) _ (never_below shape.states (number_at ns 1)) λ t.
+    never_bind (limited kinds.Range (pos 1) shape.row_total (number_at ns 2)) _ (never_limited (pos 1) shape.row_total (number_at ns 2)) λ m.
     never_bind (later_pair pair o t) _ (never_later pair o t) λ u.
     never_bind (fits_row shape sum m) _ (never_fits shape sum m) λ v.
     never_done (Out (record { seen = o; to = t; weight = m }))
@@ -179,7 +181,7 @@ never_total_line : (line : Line) → Never (total_said line)
 unfolding total_said
 never_total_line line =
     never_bind (numbers_after (codes "total") 1 line) _ (never_numbers (codes "total") 1 line) λ ns.
-    never_bind (limited (pos 1) (pos most_total) (number_at ns 0)) _ (never_limited (pos 1) (pos most_total) (number_at ns 0)) λ t.
+    never_bind (limited kinds.Range (pos 1) (pos most_total) (number_at ns 0)) _ (never_limited (pos 1) (pos most_total) (number_at ns 0)) λ t.
     never_done (Total t)
 
 never_discount_line : (line : Line) → Never (discount_said line)
@@ -193,7 +195,7 @@ never_first : (states : ℕ) (line : Line) → Never (first_said states line)
 unfolding first_said
 never_first states line =
     never_bind (numbers_after (codes "first") states line) _ (never_numbers (codes "first") states line) λ ns.
-    never_bind (weights_within ns) _ (never_weights ns) λ u.
+    never_bind (each_within kinds.Range (pos 0) (pos most_weight) ns) _ (never_weights ns) λ u.
     never_bind (total_within ns) _ (never_total ns) λ v.
     never_done (First ns)
 

@@ -1,80 +1,18 @@
 -- What each test of a line says.
-use Rattle.std.proofs.Common.{◌≡◌, ℕ, ◌^◌, ◌<◌, ◌≤◌, Bool, true, false, cond, ◌&&◌, ◌||◌, eqb, ltb, List, [], ◌∷◌, Option, Some, None, Result, Ok, Err, ℤ, pos, negsuc, refl, sym, ap, subst, ◌∙◌, arith, inl, inr, ◌⊎◌}
-use Rattle.std.specs.Prelude.{◌≤ℤ◌, ◌<ℤ◌, ◌+ℤ◌, ◌*ℤ◌, unsigned_abs, max, int_le, int_lt, ◌==◌, nat_lt, T}
-use Rattle.std.specs.List.{AllByRecursion, list_all}
+use Rattle.std.proofs.Common.{◌≡◌, ℕ, ◌^◌, ◌<◌, ◌≤◌, true, ◌&&◌, ◌||◌, eqb, ltb, List, Option, Some, None, Ok, ℤ, pos, refl, ap, ◌∙◌, arith, inl, inr, ◌⊎◌}
+use Rattle.std.specs.Prelude.{◌≤ℤ◌, ◌<ℤ◌, ◌+ℤ◌, ◌*ℤ◌, unsigned_abs, max, int_le, int_lt, ◌==◌, nat_lt}
 use Rattle.std.proofs.lemmas.Int.{ints}
 use Rattle.std.proofs.lemmas.Bool.{eqb-true, ltb-true}
 use Rattle.std.proofs.lemmas.Bool.Decides.{nat_tests}
 use Rattle.scaled_num.specs.Sums.{sum_of}
+use Rattle.text_words.specs.Forms.{is_within}
+use Rattle.text_words.proofs.Limits.{cond_ok, and_true, true_and, or_true, or_last, le_from, le_to, lt_from, lt_to, within_from, within_to, pos_abs}
 use Rattle.game_model.specs.declared.parts.Shape.{Shape}
 use Rattle.game_model.specs.Game.{IsWithin, IsNarrow}
-use Rattle.game_text.specs.declared.fault.Kind.{Kind}
 use Rattle.game_text.specs.declared.fault.Kind.TheVariants as kinds
-use Rattle.game_text.specs.Forms.{◌>>=◌, is_within, limited, within, below_limit, most_weight, discount_within, weights_within, total_within, state_at, own_at, informed_at, next_triple, full_row, narrow_reward, later_pair, fits_row}
-
--- results
-
-pub bind_ok : {A B : Type 0} (m : Result A Kind) (f : A → Result B Kind) (y : B) → (m >>= f) ≡ Ok y → (x : A) × (m ≡ Ok x) × (f x ≡ Ok y)
-bind_ok (Ok x) f y h = (x, refl, h)
-bind_ok (Err kind) f y h = absurd cc
-
-pub ok_bind : {A B : Type 0} (m : Result A Kind) (f : A → Result B Kind) (x : A) (y : B) → m ≡ Ok x → f x ≡ Ok y → (m >>= f) ≡ Ok y
-ok_bind m f x y e h = rw e h
-
-pub cond_ok : {A : Type 0} (b : Bool) (x y : A) (kind : Kind) → cond b (Ok x) (Err kind) ≡ Ok y → (b ≡ true) × (x ≡ y)
-cond_ok true x y kind h = (refl, cc)
-cond_ok false x y kind h = absurd cc
-
-pub and_true : (a b : Bool) → (a && b) ≡ true → (a ≡ true) × (b ≡ true)
-and_true true b h = (refl, h)
-and_true false b h = absurd cc
-
-pub true_and : (a b : Bool) → a ≡ true → b ≡ true → (a && b) ≡ true
-true_and a b p q = rw p q
-
-pub or_true : (a b : Bool) → (a || b) ≡ true → (a ≡ true) ⊎ (b ≡ true)
-or_true true b h = inl refl
-or_true false b h = inr h
-
--- orders
-
-pub le_from : (a b : ℤ) → int_le a b ≡ true → a ≤ℤ b
-le_from a b e = record { le = subst T (sym e) tt }
-
-pub lt_from : (a b : ℤ) → int_lt a b ≡ true → a <ℤ b
-lt_from a b e = record { lt = subst T (sym e) tt }
-
-true_from : (b : Bool) → T b → b ≡ true
-true_from true t = refl
-true_from false t = absurd t
-
-pub le_to : (a b : ℤ) → a ≤ℤ b → int_le a b ≡ true
-le_to a b h = true_from (int_le a b) (h.le)
-
-pub lt_to : (a b : ℤ) → a <ℤ b → int_lt a b ≡ true
-lt_to a b h = true_from (int_lt a b) (h.lt)
-
-pub within_from : (low high x : ℤ) → is_within low high x ≡ true → IsWithin low high x
-within_from low high x e = let p = and_true (int_le low x) (int_le x high) e in (le_from low x p.0, le_from x high p.1)
-
-pub within_to : (low high x : ℤ) → IsWithin low high x → is_within low high x ≡ true
-within_to low high x h = true_and (int_le low x) (int_le x high) (le_to low x h.0) (le_to x high h.1)
-
-pub pos_abs : (x : ℤ) → pos 0 ≤ℤ x → x ≡ pos (unsigned_abs x)
-pos_abs (pos n) h = refl
-pos_abs (negsuc n) h = absurd (omega (arith, ints, h))
+use Rattle.game_text.specs.Forms.{within, most_weight, discount_within, total_within, state_at, own_at, informed_at, next_triple, full_row, narrow_reward, later_pair, fits_row}
 
 -- the tests of numbers
-
-pub limited-ok : (low high x y : ℤ) → limited low high x ≡ Ok y → IsWithin low high y × (x ≡ y)
-unfolding limited
-limited-ok low high x y h =
-    let p = cond_ok (is_within low high x) x y kinds.Range h in
-    (subst (IsWithin low high) p.1 (within_from low high x p.0), p.1)
-
-pub limited-to : (low high x : ℤ) → IsWithin low high x → limited low high x ≡ Ok x
-unfolding limited
-limited-to low high x h = rw (within_to low high x h) refl
 
 pub within-ok : (low high : ℕ) (x : ℤ) (n : ℕ) → within low high x ≡ Ok n → (low ≤ n) × (n ≤ high) × (x ≡ pos n)
 unfolding within
@@ -87,19 +25,6 @@ within-ok low high x n h =
 pub within-to : (low high n : ℕ) → low ≤ n → n ≤ high → within low high (pos n) ≡ Ok n
 unfolding within
 within-to low high n l m = rw (within_to (pos low) (pos high) (pos n) (omega (arith, ints), omega (arith, ints))) refl
-
-pub below_limit-ok : (limit : ℕ) (x : ℤ) (n : ℕ) → below_limit limit x ≡ Ok n → (n < limit) × (x ≡ pos n)
-unfolding below_limit
-below_limit-ok limit x n h =
-    let p = cond_ok (int_le (pos 0) x && int_lt x (pos limit)) (unsigned_abs x) n kinds.Range h in
-    let q = and_true (int_le (pos 0) x) (int_lt x (pos limit)) p.0 in
-    let e : x ≡ pos n = pos_abs x (le_from (pos 0) x q.0) ∙ ap pos p.1 in
-    let l = lt_from x (pos limit) q.1 in
-    (omega (arith, ints, l, e), e)
-
-pub below_limit-to : (limit n : ℕ) → n < limit → below_limit limit (pos n) ≡ Ok n
-unfolding below_limit
-below_limit-to limit n l = rw (true_and (int_le (pos 0) (pos n)) (int_lt (pos n) (pos limit)) (le_to (pos 0) (pos n) (omega (arith, ints))) (lt_to (pos n) (pos limit) (omega (arith, ints)))) refl
 
 -- the tests of a line of the header
 
@@ -115,23 +40,6 @@ pub discount_within-to : (over under : ℤ) → pos 0 ≤ℤ over → over <ℤ 
 unfolding discount_within
 discount_within-to over under a b c =
     rw (true_and (int_le (pos 0) over && int_lt over under) (int_le under (pos most_weight)) (true_and (int_le (pos 0) over) (int_lt over under) (le_to (pos 0) over a) (lt_to over under b)) (le_to under (pos most_weight) c)) refl
-
-each_from : (low high : ℤ) (xs : List ℤ) → list_all (is_within low high) xs ≡ true → AllByRecursion (IsWithin low high) xs
-each_from low high [] e = tt
-each_from low high (x ∷ xs) e =
-    let p = and_true (is_within low high x) (list_all (is_within low high) xs) e in (within_from low high x p.0, each_from low high xs p.1)
-
-each_to : (low high : ℤ) (xs : List ℤ) → AllByRecursion (IsWithin low high) xs → list_all (is_within low high) xs ≡ true
-each_to low high [] h = refl
-each_to low high (x ∷ xs) h = true_and (is_within low high x) (list_all (is_within low high) xs) (within_to low high x h.0) (each_to low high xs h.1)
-
-pub weights_within-ok : (weights : List ℤ) (u : Unit {0}) → weights_within weights ≡ Ok u → AllByRecursion (IsWithin (pos 0) (pos most_weight)) weights
-unfolding weights_within
-weights_within-ok weights u h = each_from (pos 0) (pos most_weight) weights (cond_ok (list_all (is_within (pos 0) (pos most_weight)) weights) tt u kinds.Range h).0
-
-pub weights_within-to : (weights : List ℤ) → AllByRecursion (IsWithin (pos 0) (pos most_weight)) weights → weights_within weights ≡ Ok tt
-unfolding weights_within
-weights_within-to weights h = rw (each_to (pos 0) (pos most_weight) weights h) refl
 
 pub total_within-ok : (weights : List ℤ) (u : Unit {0}) → total_within weights ≡ Ok u → IsWithin (pos 1) (pos most_weight) (sum_of weights)
 unfolding total_within
@@ -173,10 +81,6 @@ full_row-ok shape begun sum u h =
 pub full_row-none : (shape : Shape) (sum : ℤ) → full_row shape 0 sum ≡ Ok tt
 unfolding full_row
 full_row-none shape sum = refl
-
-or_last : (a b : Bool) → b ≡ true → (a || b) ≡ true
-or_last true b h = refl
-or_last false b h = h
 
 pub full_row-to : (shape : Shape) (begun : ℕ) (sum : ℤ) → sum ≡ shape.row_total → full_row shape begun sum ≡ Ok tt
 unfolding full_row

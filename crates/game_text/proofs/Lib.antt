@@ -1,4 +1,3 @@
-pub mod Words
 pub mod Widths
 pub mod Reading
 pub mod RowSteps

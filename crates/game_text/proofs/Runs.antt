@@ -8,10 +8,11 @@ use Rattle.std.proofs.lemmas.Bool.Decides.{nat_tests}
 use Rattle.std.proofs.Math.Nat.{div-lt_iff_lt-mul}
 use Rattle.scaled_num.specs.Sums.{total}
 use Rattle.text_words.specs.Lines.{Line}
+use Rattle.text_words.specs.Forms.{begins}
 use Rattle.game_model.specs.declared.parts.Shape.{Shape}
 use Rattle.game_model.specs.declared.parts.Landing.{Landing}
 use Rattle.game_model.specs.Game.{IsWithin, IsBelief, IsNarrow, IsShape, IsBefore, IsLanding, IsRewardInRange, triples, row_sum}
-use Rattle.game_text.specs.Forms.{begins, most_total, state_at, own_at, informed_at}
+use Rattle.game_text.specs.Forms.{most_total, state_at, own_at, informed_at}
 use Rattle.game_text.specs.Entries.{Entry, Version, Size, Total, Discount, First, Step, Out, End, shape_in, begun_in, sum_in, pair_in, entry_of, row_end_said, out_said, step_said, end_said}
 use Rattle.game_text.specs.Place.{IsOpen}
 use Rattle.game_text.specs.Reading.{Say}

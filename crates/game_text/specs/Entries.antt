@@ -1,12 +1,13 @@
 -- What a line says after those before it, found by looking back.
 use Rattle.std.specs.Prelude.{ℕ, ◌+◌, ◌==◌, List, [], ◌∷◌, Option, Some, None, Result, Ok, Err, ℤ, pos, ◌+ℤ◌, neg_ℤ, if◌then◌else◌, codes}
 use Rattle.text_words.specs.Lines.{Line}
+use Rattle.text_words.specs.Forms.{◌>>=◌, number_at, begins, limited, below_limit, each_within}
 use Rattle.game_model.specs.declared.parts.Shape.{Shape}
 use Rattle.game_model.specs.declared.parts.Landing.{Landing}
 use Rattle.game_model.specs.Game.{triples}
 use Rattle.game_text.specs.declared.fault.Kind.{Kind}
 use Rattle.game_text.specs.declared.fault.Kind.TheVariants as kinds
-use Rattle.game_text.specs.Forms.{◌>>=◌, number_at, limited, within, below_limit, numbers_after, begins, version_line, most_total, discount_within, weights_within, total_within, next_triple, full_row, narrow_reward, later_pair, fits_row}
+use Rattle.game_text.specs.Forms.{within, numbers_after, version_line, most_total, most_weight, discount_within, total_within, next_triple, full_row, narrow_reward, later_pair, fits_row}
 
 -- what a line says
 pub data Entry : Type 0 where
@@ -62,7 +63,7 @@ size_said line = do
 unfoldable pub total_said : Line → Result Entry Kind
 total_said line = do
   ns ← numbers_after (codes "total") 1 line
-  total ← limited (pos 1) (pos most_total) (number_at ns 0)
+  total ← limited kinds.Range (pos 1) (pos most_total) (number_at ns 0)
   Ok (Total total)
 
 unfoldable pub discount_said : Line → Result Entry Kind
@@ -74,7 +75,7 @@ discount_said line = do
 unfoldable pub first_said : ℕ → Line → Result Entry Kind
 first_said states line = do
   ns ← numbers_after (codes "first") states line
-  _ ← weights_within ns
+  _ ← each_within kinds.Range (pos 0) (pos most_weight) ns
   _ ← total_within ns
   Ok (First ns)
 
@@ -82,10 +83,10 @@ first_said states line = do
 unfoldable pub step_said : Shape → ℕ → ℤ → Line → Result Entry Kind
 step_said shape begun sum line = do
   ns ← numbers_after (codes "step") 4 line
-  s ← below_limit shape.states (number_at ns 0)
-  a ← below_limit shape.own_actions (number_at ns 1)
-  c ← below_limit shape.informed_actions (number_at ns 2)
-  reward ← limited (neg_ℤ (pos most_total)) (pos most_total) (number_at ns 3)
+  s ← below_limit kinds.Range shape.states (number_at ns 0)
+  a ← below_limit kinds.Range shape.own_actions (number_at ns 1)
+  c ← below_limit kinds.Range shape.informed_actions (number_at ns 2)
+  reward ← limited kinds.Range (neg_ℤ (pos most_total)) (pos most_total) (number_at ns 3)
   _ ← next_triple shape begun s a c
   _ ← full_row shape begun sum
   _ ← narrow_reward shape reward
@@ -95,9 +96,9 @@ step_said shape begun sum line = do
 unfoldable pub out_said : Shape → ℤ → Option (ℕ × ℕ) → Line → Result Entry Kind
 out_said shape sum pair line = do
   ns ← numbers_after (codes "out") 3 line
-  seen ← below_limit shape.observations (number_at ns 0)
-  to ← below_limit shape.states (number_at ns 1)
-  weight ← limited (pos 1) shape.row_total (number_at ns 2)
+  seen ← below_limit kinds.Range shape.observations (number_at ns 0)
+  to ← below_limit kinds.Range shape.states (number_at ns 1)
+  weight ← limited kinds.Range (pos 1) shape.row_total (number_at ns 2)
   _ ← later_pair pair seen to
   _ ← fits_row shape sum weight
   Ok (Out (record { seen = seen; to = to; weight = weight }))

@@ -1,51 +1,21 @@
 -- What the words and numbers of one line say, or the least kind of fault.
-use Rattle.std.specs.Prelude.{ℕ, ◌/◌, ◌%◌, ◌^◌, ◌==◌, nat_lt, max, ◌&&◌, ◌||◌, Bool, false, List, [], ◌∷◌, length, Option, Some, None, Result, Ok, Err, ℤ, pos, ◌+ℤ◌, ◌*ℤ◌, int_lt, int_le, unsigned_abs, if◌then◌else◌, slice_index_or, codes}
-use Rattle.std.specs.List.{list_all}
-use Rattle.std.specs.Option.{ok_or}
+use Rattle.std.specs.Prelude.{ℕ, ◌/◌, ◌%◌, ◌^◌, ◌==◌, nat_lt, max, ◌&&◌, ◌||◌, List, [], ◌∷◌, Option, Some, None, Result, Ok, Err, ℤ, pos, ◌+ℤ◌, ◌*ℤ◌, int_lt, int_le, unsigned_abs, if◌then◌else◌, codes}
 use Rattle.std.specs.Str.{bytes_eq}
 use Rattle.scaled_num.specs.Sums.{sum_of}
-use Rattle.text_words.specs.Lines.{Line}
-use Rattle.text_words.specs.Numbers.{numbers_of}
+use Rattle.text_words.specs.Lines.{Line, Word}
+use Rattle.text_words.specs.Forms.{is_within}
+use Rattle.text_words.specs.Forms as forms
 use Rattle.game_model.specs.declared.parts.Shape.{Shape}
 use Rattle.game_text.specs.declared.fault.Kind.{Kind}
 use Rattle.game_text.specs.declared.fault.Kind.TheVariants as kinds
 
-infixl 10 ◌>>=◌
-abbrev pub ◌>>=◌ : {A B : Type 0} → Result A Kind → (A → Result B Kind) → Result B Kind
-(Ok x) >>= f = f x
-(Err e) >>= f = Err e
+-- the numbers of a line of this form: its first word, and how many numbers follow
+abbrev pub numbers_after : Word → ℕ → Line → Result (List ℤ) Kind
+numbers_after = forms.numbers_after kinds.Shape kinds.Number
 
-abbrev pub number_at : List ℤ → ℕ → ℤ
-number_at numbers i = slice_index_or numbers i (pos 0)
-
-abbrev pub is_within : ℤ → ℤ → ℤ → Bool
-is_within low high number = int_le low number && int_le number high
-
--- a number in its limits
-unfoldable pub limited : ℤ → ℤ → ℤ → Result ℤ Kind
-limited low high number = if is_within low high number then Ok number else Err kinds.Range
-
+-- a small number in its limits
 unfoldable pub within : ℕ → ℕ → ℤ → Result ℕ Kind
 within low high number = if is_within (pos low) (pos high) number then Ok (unsigned_abs number) else Err kinds.Range
-
--- a number below a limit
-unfoldable pub below_limit : ℕ → ℤ → Result ℕ Kind
-below_limit limit number = if int_le (pos 0) number && int_lt number (pos limit) then Ok (unsigned_abs number) else Err kinds.Range
-
--- the numbers of words that are all number words
-unfoldable pub numbers_said : Line → Result (List ℤ) Kind
-numbers_said words = ok_or (numbers_of words) kinds.Number
-
--- the numbers of a line of this form: its first word, and how many numbers follow
-unfoldable pub numbers_after : List ℕ → ℕ → Line → Result (List ℤ) Kind
-numbers_after name count [] = Err kinds.Shape
-numbers_after name count (word ∷ words) =
-    if bytes_eq word name && (length words == count) then numbers_said words else Err kinds.Shape
-
--- the line begins with this word
-abbrev pub begins : List ℕ → Line → Bool
-begins name [] = false
-begins name (word ∷ words) = bytes_eq word name
 
 -- the line is `osposg 1`
 unfoldable pub version_line : Line → Result (Unit {0}) Kind
@@ -67,10 +37,7 @@ unfoldable pub discount_within : ℤ → ℤ → Result (ℤ × ℤ) Kind
 discount_within over under =
     if int_le (pos 0) over && int_lt over under && int_le under (pos most_weight) then Ok (over, under) else Err kinds.Range
 
--- each weight of the first belief is in its limits, and their total is
-unfoldable pub weights_within : List ℤ → Result (Unit {0}) Kind
-weights_within weights = if list_all (is_within (pos 0) (pos most_weight)) weights then Ok tt else Err kinds.Range
-
+-- the total of the first belief is in its limits
 unfoldable pub total_within : List ℤ → Result (Unit {0}) Kind
 total_within weights = if is_within (pos 1) (pos most_weight) (sum_of weights) then Ok tt else Err kinds.Belief
 

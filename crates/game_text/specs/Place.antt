@@ -1,6 +1,7 @@
 -- Where the reader stands in the rows, and what it reads there.
 use Rattle.std.specs.Prelude.{ℕ, ◌+◌, List, [], ◌∷◌, Option, Some, None, Result, Ok, pos, ◌+ℤ◌, ◌≤ℤ◌, if◌then◌else◌, codes, ⊤}
 use Rattle.text_words.specs.Lines.{Line}
+use Rattle.text_words.specs.Forms.{◌>>=◌, begins}
 use Rattle.game_model.specs.Game.{IsShape}
 use Rattle.game_text.specs.declared.fault.Kind.{Kind}
 use Rattle.game_text.specs.declared.place.Place.{Place}
@@ -8,7 +9,6 @@ use Rattle.game_text.specs.declared.place.Latest.{Latest}
 use Rattle.game_text.specs.declared.place.Latest.TheVariants.{Start, Row, Pair}
 use Rattle.game_text.specs.declared.place.RowEntry.{RowEntry}
 use Rattle.game_text.specs.declared.place.RowEntry.TheVariants as row
-use Rattle.game_text.specs.Forms.{◌>>=◌, begins}
 use Rattle.game_text.specs.Reading.{first_of}
 use Rattle.game_text.specs.Entries.{Entry, First, Step, Out, End, shape_in, begun_in, sum_in, step_said, out_said, row_end_said}
 

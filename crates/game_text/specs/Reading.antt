@@ -1,9 +1,9 @@
 -- A text as the list of what its lines say: which texts are accepted, and where the others are refused.
 use Rattle.std.specs.Prelude.{◌≡◌, ◌⊎◌, ℕ, ◌+◌, ◌<◌, List, [], ◌∷◌, ◌++◌, reverse, length, Result, Ok, Err, ⊤}
 use Rattle.text_words.specs.Lines.{Line, lines_of, after_lines}
+use Rattle.text_words.specs.Forms.{◌>>=◌}
 use Rattle.game_text.specs.declared.fault.Kind.{Kind}
 use Rattle.game_text.specs.declared.fault.Kind.TheVariants as kinds
-use Rattle.game_text.specs.Forms.{◌>>=◌}
 use Rattle.game_text.specs.Entries.{Entry, End, entry_of}
 
 -- these lines say these entries; both have the latest first

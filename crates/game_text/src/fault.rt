@@ -1,9 +1,10 @@
 ghost use Rattle.std.specs.Prelude.{◌≡◌, Ok, Err, MatchResult};
 ghost use Rattle.game_text.specs.declared.fault.LineFault.TheVariants.{OutOfMemory, Refused};
 ghost use Rattle.game_text.specs.declared.fault.TextFault.TheVariants as texts;
-ghost use Rattle.game_text.specs.Fault.{at_line, number_of_kind};
+ghost use Rattle.game_text.specs.Fault.{at_line, number_of_kind, of_numbers};
 
 use std::alloc::{AllocError, AllocFailed};
+use text_words::NumbersFault;
 use thiserror::Error;
 
 /// What is wrong with a line. The least kind that applies is reported.
@@ -63,6 +64,18 @@ impl From<Kind> for LineFault {
 
     fn from(kind: Kind) -> Self {
         LineFault::Refused(kind)
+    }
+}
+
+impl From<NumbersFault> for LineFault {
+    ghost from_gives = { λ fault line_fault. line_fault ≡ of_numbers fault };
+
+    fn from(fault: NumbersFault) -> Self {
+        match fault {
+            NumbersFault::Shape => LineFault::Refused(Kind::Shape),
+            NumbersFault::Number => LineFault::Refused(Kind::Number),
+            NumbersFault::OutOfMemory => LineFault::OutOfMemory,
+        }
     }
 }
 

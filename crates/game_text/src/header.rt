@@ -10,11 +10,12 @@ ghost use Rattle.game_text.specs.Answers.{IsFaultOf};
 ghost use Rattle.game_text.specs.Limits.{IsDiscount};
 
 use crate::fault::{Kind, LineFault, TextFault, numbered};
-use crate::forms::{
-    discount_within, limited, numbers_after, total_within, version, weights_within, within,
+use crate::forms::{discount_within, numbers_after, total_within, version, within};
+use game_model::{
+    MOST_ACTIONS, MOST_BELIEF, MOST_OBSERVATIONS, MOST_ROW_TOTAL, MOST_STATES, Shape,
 };
-use game_model::{MOST_ACTIONS, MOST_OBSERVATIONS, MOST_ROW_TOTAL, MOST_STATES, Shape};
 use std::alloc::Global;
+use text_words::{each_within, limited};
 
 /// The lines before the rows.
 #[derive(Debug, Drop)]
@@ -73,7 +74,7 @@ fn total_said(alloc: Global, words: &[&[u8]]) -> Result<i128, LineFault>
     ensures most { IfOk result (λ total. total ≤ℤ pos 1073741824) }
 {
     let numbers = numbers_after(alloc, words, b"total", 1)?;
-    Ok(limited(1, MOST_ROW_TOTAL, numbers[0])?)
+    Ok(limited(Kind::Range, 1, MOST_ROW_TOTAL, numbers[0])?)
 }
 
 #[tactic(auto, unfolding(crate::specs::Entries::discount_said))]
@@ -91,7 +92,7 @@ fn first_said(alloc: Global, words: &[&[u8]], states: u32) -> Result<Vec<i128>, 
     ensures { Gives (λ weights. First weights.items) result (first_said states (map (λ word. word.now) words.now)) }
 {
     let weights = numbers_after(alloc, words, b"first", states as usize)?;
-    weights_within(&weights)?;
+    each_within(Kind::Range, 0, MOST_BELIEF, &weights)?;
     total_within(&weights)?;
     Ok(weights)
 }

@@ -6,10 +6,11 @@ ghost use Rattle.game_text.specs.Entries.{step_said, out_said, end_said, row_end
 ghost use Rattle.game_text.specs.Place.{IsPlace, FitsPlace, entry_in, pair_of, row_said};
 
 use crate::fault::{Kind, LineFault};
-use crate::forms::{begins, below_limit, limited, numbers_after};
+use crate::forms::numbers_after;
 use crate::place::{Latest, Place, RowEntry};
 use game_model::{Landing, MOST_REWARD, MOST_WIDTH, Shape};
 use std::alloc::Global;
+use text_words::{begins, below_limit, limited};
 
 /// The triple is the next one, where so many were begun.
 #[tactic(auto, unfolding(crate::specs::Forms::next_triple))]
@@ -98,10 +99,10 @@ fn step_line(alloc: Global, place: &Place, words: &[&[u8]]) -> Result<RowEntry, 
 {
     let shape = place.shape;
     let numbers = numbers_after(alloc, words, b"step", 4)?;
-    let state = below_limit(shape.states, numbers[0])?;
-    let own = below_limit(shape.own_actions, numbers[1])?;
-    let informed = below_limit(shape.informed_actions, numbers[2])?;
-    let reward = limited(-MOST_REWARD, MOST_REWARD, numbers[3])?;
+    let state = below_limit(Kind::Range, shape.states, numbers[0])?;
+    let own = below_limit(Kind::Range, shape.own_actions, numbers[1])?;
+    let informed = below_limit(Kind::Range, shape.informed_actions, numbers[2])?;
+    let reward = limited(Kind::Range, -MOST_REWARD, MOST_REWARD, numbers[3])?;
     next_triple(shape, place.begun, state, own, informed)?;
     full_row(shape, place.begun, place.sum)?;
     narrow_reward(shape, reward)?;
@@ -120,9 +121,9 @@ fn out_line(alloc: Global, place: &Place, words: &[&[u8]]) -> Result<RowEntry, L
     ensures fits { IfOk result (FitsPlace place.now) }
 {
     let numbers = numbers_after(alloc, words, b"out", 3)?;
-    let seen = below_limit(place.shape.observations, numbers[0])?;
-    let to = below_limit(place.shape.states, numbers[1])?;
-    let weight = limited(1, place.shape.row_total, numbers[2])?;
+    let seen = below_limit(Kind::Range, place.shape.observations, numbers[0])?;
+    let to = below_limit(Kind::Range, place.shape.states, numbers[1])?;
+    let weight = limited(Kind::Range, 1, place.shape.row_total, numbers[2])?;
     later_pair(place.latest, seen, to)?;
     fits_row(place, weight)?;
     Ok(RowEntry::Out(Landing { seen, to, weight }))

@@ -1,4 +1,6 @@
-use crate::{number, split_line, words};
+use crate::{
+    NumbersFault, below_limit, each_within, limited, number, numbers_after, split_line, words,
+};
 use std::test::Fail;
 
 #[test]
@@ -22,4 +24,27 @@ fn a_line_is_cut_into_words_and_numbers(rt: HostRuntime) -> Result<(), Fail> {
         assert_eq!(rt; number(word), *wanted);
     }
     Ok(())
+}
+
+#[test]
+fn a_line_of_a_form_gives_its_numbers(rt: HostRuntime) -> Result<(), Fail> {
+    let line = words(rt.alloc(), b"size 3 -2 1")?;
+    let numbers = numbers_after(rt.alloc(), &line, b"size", 3).expect(&rt, "three numbers");
+    assert_eq!(rt; numbers.as_slice(), [3, -2, 1].as_slice());
+    let longer = numbers_after(rt.alloc(), &line, b"size", 2);
+    assert_eq!(rt; longer.err(), Some(NumbersFault::Shape));
+    let other = words(rt.alloc(), b"size 3 two")?;
+    let no_number = numbers_after(rt.alloc(), &other, b"size", 2);
+    assert_eq!(rt; no_number.err(), Some(NumbersFault::Number));
+    Ok(())
+}
+
+#[test]
+fn limits_hold_at_their_ends(rt: HostRuntime) {
+    assert_eq!(rt; limited('x', -1, 4, 4), Ok(4));
+    assert_eq!(rt; limited('x', -1, 4, 5), Err('x'));
+    assert_eq!(rt; below_limit('x', 4, 3), Ok(3));
+    assert_eq!(rt; below_limit('x', 4, 4), Err('x'));
+    assert_eq!(rt; each_within('x', 0, 1, &[0, 1]), Ok(()));
+    assert_eq!(rt; each_within('x', 0, 1, &[0, 2]), Err('x'));
 }
