@@ -1,5 +1,5 @@
 -- Bland's rule, as far as a loop has come.
-use Rattle.std.proofs.Common.{IsTrue, nat_lt, int_lt, ◌↔◌, ℕ, ◌+◌, ◌<◌, ◌≤◌, ◌≡◌, ℤ, pos, negsuc, ◌*ℤ◌, ◌<ℤ◌, ◌≤ℤ◌, [], ◌∷◌, length, slice_index, sym, ap, subst, ◌∙◌, inl, inr, arith, Option, Some, None, mul-le-mul_left, mul-lt-mul_of_pos_right}
+use Rattle.std.proofs.Common.{◌↔◌, ℕ, ◌+◌, ◌<◌, ◌≤◌, ◌≡◌, ℤ, pos, negsuc, ◌*ℤ◌, ◌<ℤ◌, ◌≤ℤ◌, [], ◌∷◌, length, slice_index, sym, ap, subst, ◌∙◌, inl, inr, arith, Option, Some, None, mul-le-mul_left, mul-lt-mul_of_pos_right}
 use Rattle.std.proofs.lemmas.Int.{ints, by_lt_z}
 use Rattle.std.proofs.lemmas.Bool.{cases_lt, cases_eq}
 use borrow.Author.Differences.{up, down}
@@ -116,14 +116,14 @@ leaves_all d q k h = record {
   first = λ s b e. elim (cases_lt (slice_index d.basic s) (slice_index d.basic k)) [ inl lt ↦ absurd (h.2 s b.0 b (inr (sym e, lt))) | inr ge ↦ ge ];
 }
 
-pub tighter_tie : (d : CostForm) (q k s a b : ℕ) → ratio d q k s ≡ ratio d q s k → a ≡ slice_index d.basic k → b ≡ slice_index d.basic s → IsTrue (nat_lt a b) ↔ IsTighter d q k s
+pub tighter_tie : (d : CostForm) (q k s a b : ℕ) → ratio d q k s ≡ ratio d q s k → a ≡ slice_index d.basic k → b ≡ slice_index d.basic s → (a < b) ↔ IsTighter d q k s
 tighter_tie d q k s a b e ka kb = (
-  λ t. inr (e, (let i : a < b = grind (arith, t) in omega arith)),
-  λ h. elim h [ inl u ↦ absurd (omega (arith, ints)) | inr u ↦ (let i : a < b = omega (arith, u.1) in grind arith) ],
+  λ i. inr (e, omega arith),
+  λ h. elim h [ inl u ↦ absurd (omega (arith, ints)) | inr u ↦ omega (arith, u.1) ],
 )
 
-pub tighter_apart : (d : CostForm) (q k s : ℕ) (a b : ℤ) → a ≡ ratio d q k s → b ≡ ratio d q s k → (a ≡ b → ⊥) → IsTrue (int_lt a b) ↔ IsTighter d q k s
+pub tighter_apart : (d : CostForm) (q k s : ℕ) (a b : ℤ) → a ≡ ratio d q k s → b ≡ ratio d q s k → (a ≡ b → ⊥) → (a <ℤ b) ↔ IsTighter d q k s
 tighter_apart d q k s a b ka kb ne = (
-  λ t. inl (let i : a <ℤ b = grind (arith, ints, t) in omega (arith, ints)),
-  λ h. elim h [ inl u ↦ (let i : a <ℤ b = omega (arith, ints) in grind (arith, ints)) | inr u ↦ absurd (ne (ka ∙ u.0 ∙ sym kb)) ],
+  λ i. inl (omega (arith, ints)),
+  λ h. elim h [ inl u ↦ omega (arith, ints) | inr u ↦ absurd (ne (ka ∙ u.0 ∙ sym kb)) ],
 )

@@ -1,4 +1,4 @@
-use Rattle.std.proofs.Common.{◌<◌, length, ap, FitsSigned, to_z-of_z, rules}
+use Rattle.std.proofs.Common.{◌≡◌, ◌<◌, ◌*ℤ◌, length, ap, FitsSigned, to_z-of_z, rules}
 use Rattle.std.specs.Int.{w128}
 use Rattle.simplex.specs.Reading.{IsDual}
 use Rattle.simplex.specs.Dictionary.{Dictionary}
@@ -18,8 +18,10 @@ returns c =
     let view = ap (λ (s : State). s.last) c.self.view_is in
     let f1 : FitsSigned w128 c.price.result = search rules in
     let f2 : FitsSigned w128 c.goal_lead.result = search rules in
+    let read = simp to_z-of_z at c.lowest.ensures.same in
+    let same : c.lowest.result.0 *ℤ c.goal_lead.result ≡ c.price.result *ℤ c.lowest.result.1 = search rules in
     say (λ (d : Dictionary). IsDual d c.args.i c.lowest.result.0 c.lowest.result.1) _ _ _ view
     (dual_of (cost_form_of c.self.inside.tableau) c.args.i c.price.result c.goal_lead.result c.lowest.result.0 c.lowest.result.1
     (c.self.invariant.standing (has_run_of _ _ _ view c.requires.last))
     (said (λ (d : Dictionary). c.args.i < length d.basic) _ _ _ view c.requires.last c.requires.row)
-    c.price.ensures.price c.goal_lead.ensures.lead c.lowest.ensures.lowest (simp to_z-of_z at c.lowest.ensures.same))
+    c.price.ensures.price c.goal_lead.ensures.lead c.lowest.ensures.lowest same)
