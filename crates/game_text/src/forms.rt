@@ -6,6 +6,7 @@ ghost use Rattle.game_text.specs.Forms.{within, version_line, discount_within, t
 
 use crate::fault::{Kind, LineFault};
 use game_model::{MOST_BELIEF, MOST_DISCOUNT};
+use scaled_num::sum;
 use std::alloc::Global;
 use text_words::is_within;
 
@@ -70,17 +71,4 @@ pub fn total_within(weights: &[i128]) -> Result<(), Kind>
         return Err(Kind::Belief);
     }
     Ok(())
-}
-
-/// The sum of small numbers.
-fn sum(numbers: &[i128]) -> i128
-    requires few { length numbers.now ≤ 16 }
-    requires small { All (λ n. (pos 0 ≤ℤ n) × (n ≤ℤ pos 1048576)) numbers.now }
-    ensures { result ≡ sum_of numbers.now }
-{
-    let mut sum = 0;
-    for number in numbers {
-        sum += *number;
-    }
-    sum
 }
