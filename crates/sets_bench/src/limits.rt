@@ -2,7 +2,6 @@ ghost use Rattle.game_model.specs.Game.{IsMass, IsWithin};
 ghost use Rattle.point_set.specs.Corners.{HasCorner, IsCurrentCorner};
 ghost use Rattle.point_set.specs.Sawtooth.{AreCorners};
 ghost use Rattle.point_set.specs.Split.{AreRisingPairs, IsWanted};
-ghost use Rattle.scaled_num.specs.Sums.{sum_of};
 ghost use Rattle.sets_bench.specs.Full.{AreFull};
 ghost use Rattle.std.specs.Bool.{IsTrue};
 ghost use Rattle.std.specs.List.{AllByRecursion};
@@ -13,6 +12,7 @@ use belief::Belief;
 use controller::Certificate;
 use game_model::{Game, MOST_STATES, law_game};
 use point_set::{MOST_POINTS, PointSet};
+use scaled_num::sum;
 
 /// The greatest mass, which any row total allows.
 const MOST_MASS: i128 = 1 << 36;
@@ -33,7 +33,7 @@ pub fn are_masses(game: &Game, masses: &[[i128; MOST_STATES]]) -> bool
 }
 
 /// Whether this is a mass over the states of a game, of at most 2^36.
-#[tactic(auto, using(crate::proofs::Masses::right_mass))]
+#[tactic(auto, using(crate::proofs::Masses::right_mass, crate::proofs::Masses::small_sum))]
 pub fn is_mass(game: &Game, mass: &[i128]) -> bool
     ensures { IsTrue result → IsMass game.now mass.now }
 {
@@ -49,19 +49,6 @@ fn are_parts(mass: &[i128]) -> bool
     ensures { IsTrue result → AllByRecursion (IsWithin (pos 0) (pos (2 ^ 36))) mass.now }
 {
     mass.iter().all(|part| 0 <= *part && *part <= MOST_MASS)
-}
-
-/// The sum of the parts of a mass.
-fn sum(mass: &[i128]) -> i128
-    requires few { length mass.now ≤ 16 }
-    requires parts { AllByRecursion (IsWithin (pos 0) (pos (2 ^ 36))) mass.now }
-    ensures { result ≡ sum_of mass.now }
-{
-    let mut sum = 0;
-    for part in mass {
-        sum += *part;
-    }
-    sum
 }
 
 /// Whether a certificate fits a game, both of its sets are full, and its first points are the corners.
