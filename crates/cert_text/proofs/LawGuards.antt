@@ -1,104 +1,29 @@
 -- What each test of a line says.
-use Rattle.std.proofs.Common.{◌≡◌, ℕ, ◌<◌, ◌≤◌, Bool, true, false, cond, ◌&&◌, ◌||◌, eqb, ltb, List, [], ◌∷◌, Result, Ok, Err, ℤ, pos, negsuc, refl, sym, ap, subst, ◌∙◌, arith, inl, inr, ◌⊎◌}
-use Rattle.std.specs.Prelude.{◌≤ℤ◌, ◌<ℤ◌, unsigned_abs, int_le, int_lt, ◌==◌, nat_lt, T}
+use Rattle.std.proofs.Common.{◌≡◌, ℕ, ◌<◌, ◌≤◌, true, ◌&&◌, ◌||◌, eqb, ltb, List, [], ◌∷◌, Ok, ℤ, pos, refl, ap, subst, ◌∙◌, arith, inl, inr, ◌⊎◌}
+use Rattle.std.specs.Prelude.{◌≤ℤ◌, unsigned_abs, int_le, int_lt, ◌==◌, nat_lt}
 use Rattle.std.specs.List.{AllByRecursion, list_all}
 use Rattle.std.proofs.lemmas.Int.{ints}
 use Rattle.std.proofs.lemmas.Bool.{eqb-true, ltb-true}
 use Rattle.std.proofs.lemmas.Bool.Decides.{nat_tests}
 use Rattle.scaled_num.specs.Sums.{sum_of}
+use Rattle.text_words.specs.Forms.{is_within}
+use Rattle.text_words.proofs.Limits.{cond_ok, and_true, true_and, or_true, or_last, le_from, lt_from, le_to, lt_to, within_from, within_to, pos_abs, each_from, each_to}
 use Rattle.game_model.specs.Branches.{mix_total}
 use Rattle.game_model.specs.Game.{IsWithin, AreCoprime}
 use Rattle.controller.specs.Certificates.{most_members}
-use Rattle.cert_text.specs.declared.fault.CertKind.{CertKind}
 use Rattle.cert_text.specs.declared.fault.CertKind.TheVariants as kinds
 use Rattle.cert_text.specs.declared.place.Latest.{Latest}
 use Rattle.cert_text.specs.declared.place.Latest.TheVariants as latest
-use Rattle.cert_text.specs.Forms.{◌>>=◌, is_within, limited, below_limit, at_least, each_within, is_due, member_below, few, is_after, later_branch, sums_to_mix, common_divisor, most_belief, belief_total, none_lacks, fits_lack}
+use Rattle.cert_text.specs.Forms.{at_least, is_due, member_below, few, is_after, later_branch, sums_to_mix, common_divisor, most_belief, belief_total, none_lacks, fits_lack}
 use Rattle.cert_text.proofs.Divisor.{coprime_from, coprime_to}
 
--- results
-
-pub bind_ok : {A B : Type 0} (m : Result A CertKind) (f : A → Result B CertKind) (y : B) → (m >>= f) ≡ Ok y → (x : A) × (m ≡ Ok x) × (f x ≡ Ok y)
-bind_ok (Ok x) f y h = (x, refl, h)
-bind_ok (Err kind) f y h = absurd cc
-
-pub cond_ok : {A : Type 0} (b : Bool) (x y : A) (kind : CertKind) → cond b (Ok x) (Err kind) ≡ Ok y → (b ≡ true) × (x ≡ y)
-cond_ok true x y kind h = (refl, cc)
-cond_ok false x y kind h = absurd cc
-
-pub and_true : (a b : Bool) → (a && b) ≡ true → (a ≡ true) × (b ≡ true)
-and_true true b h = (refl, h)
-and_true false b h = absurd cc
-
-pub true_and : (a b : Bool) → a ≡ true → b ≡ true → (a && b) ≡ true
-true_and a b p q = rw p q
-
-pub or_true : (a b : Bool) → (a || b) ≡ true → (a ≡ true) ⊎ (b ≡ true)
-or_true true b h = inl refl
-or_true false b h = inr h
-
-pub or_last : (a b : Bool) → b ≡ true → (a || b) ≡ true
-or_last true b h = refl
-or_last false b h = h
-
--- orders
-
-pub le_from : (a b : ℤ) → int_le a b ≡ true → a ≤ℤ b
-le_from a b e = record { le = subst T (sym e) tt }
-
-pub lt_from : (a b : ℤ) → int_lt a b ≡ true → a <ℤ b
-lt_from a b e = record { lt = subst T (sym e) tt }
-
-true_from : (b : Bool) → T b → b ≡ true
-true_from true t = refl
-true_from false t = absurd t
-
-pub le_to : (a b : ℤ) → a ≤ℤ b → int_le a b ≡ true
-le_to a b h = true_from (int_le a b) (h.le)
-
-pub lt_to : (a b : ℤ) → a <ℤ b → int_lt a b ≡ true
-lt_to a b h = true_from (int_lt a b) (h.lt)
-
-pub within_from : (low high x : ℤ) → is_within low high x ≡ true → IsWithin low high x
-within_from low high x e = let p = and_true (int_le low x) (int_le x high) e in (le_from low x p.0, le_from x high p.1)
-
-pub within_to : (low high x : ℤ) → IsWithin low high x → is_within low high x ≡ true
-within_to low high x h = true_and (int_le low x) (int_le x high) (le_to low x h.0) (le_to x high h.1)
-
-pub pos_abs : (x : ℤ) → pos 0 ≤ℤ x → x ≡ pos (unsigned_abs x)
-pos_abs (pos n) h = refl
-pos_abs (negsuc n) h = absurd (omega (arith, ints, h))
+-- the tests of numbers
 
 squeezed : (x y : ℤ) → IsWithin y y x → x ≡ y
 squeezed x y h = omega (arith, ints, h.0, h.1)
 
 same_within : (x y : ℤ) → x ≡ y → IsWithin y y x
 same_within x y e = (omega (arith, ints, e), omega (arith, ints, e))
-
--- the tests of numbers
-
-pub limited-ok : (low high x y : ℤ) → limited low high x ≡ Ok y → IsWithin low high y × (x ≡ y)
-unfolding limited
-limited-ok low high x y h =
-    let p = cond_ok (is_within low high x) x y kinds.Range h in
-    (subst (IsWithin low high) p.1 (within_from low high x p.0), p.1)
-
-pub limited-to : (low high x : ℤ) → IsWithin low high x → limited low high x ≡ Ok x
-unfolding limited
-limited-to low high x h = rw (within_to low high x h) refl
-
-pub below_limit-ok : (limit : ℕ) (x : ℤ) (n : ℕ) → below_limit limit x ≡ Ok n → (n < limit) × (x ≡ pos n)
-unfolding below_limit
-below_limit-ok limit x n h =
-    let p = cond_ok (int_le (pos 0) x && int_lt x (pos limit)) (unsigned_abs x) n kinds.Range h in
-    let q = and_true (int_le (pos 0) x) (int_lt x (pos limit)) p.0 in
-    let e : x ≡ pos n = pos_abs x (le_from (pos 0) x q.0) ∙ ap pos p.1 in
-    let l = lt_from x (pos limit) q.1 in
-    (omega (arith, ints, l, e), e)
-
-pub below_limit-to : (limit n : ℕ) → n < limit → below_limit limit (pos n) ≡ Ok n
-unfolding below_limit
-below_limit-to limit n l = rw (true_and (int_le (pos 0) (pos n)) (int_lt (pos n) (pos limit)) (le_to (pos 0) (pos n) (omega (arith, ints))) (lt_to (pos n) (pos limit) (omega (arith, ints)))) refl
 
 pub at_least-ok : (low x y : ℤ) → at_least low x ≡ Ok y → (low ≤ℤ y) × (x ≡ y)
 unfolding at_least
@@ -109,23 +34,6 @@ at_least-ok low x y h =
 pub at_least-to : (low x : ℤ) → low ≤ℤ x → at_least low x ≡ Ok x
 unfolding at_least
 at_least-to low x h = rw (le_to low x h) refl
-
-each_from : (low high : ℤ) (xs : List ℤ) → list_all (is_within low high) xs ≡ true → AllByRecursion (IsWithin low high) xs
-each_from low high [] e = tt
-each_from low high (x ∷ xs) e =
-    let p = and_true (is_within low high x) (list_all (is_within low high) xs) e in (within_from low high x p.0, each_from low high xs p.1)
-
-each_to : (low high : ℤ) (xs : List ℤ) → AllByRecursion (IsWithin low high) xs → list_all (is_within low high) xs ≡ true
-each_to low high [] h = refl
-each_to low high (x ∷ xs) h = true_and (is_within low high x) (list_all (is_within low high) xs) (within_to low high x h.0) (each_to low high xs h.1)
-
-pub each_within-ok : (low high : ℤ) (xs : List ℤ) (u : Unit {0}) → each_within low high xs ≡ Ok u → AllByRecursion (IsWithin low high) xs
-unfolding each_within
-each_within-ok low high xs u h = each_from low high xs (cond_ok (list_all (is_within low high) xs) tt u kinds.Range h).0
-
-pub each_within-to : (low high : ℤ) (xs : List ℤ) → AllByRecursion (IsWithin low high) xs → each_within low high xs ≡ Ok tt
-unfolding each_within
-each_within-to low high xs h = rw (each_to low high xs h) refl
 
 pub is_due-ok : (due : ℕ) (x : ℤ) (u : Unit {0}) → is_due due x ≡ Ok u → x ≡ pos due
 unfolding is_due

@@ -13,9 +13,9 @@ use Rattle.game_model.specs.Branches.{AreRising, Branch, IsBranch, IsBranchBefor
 use Rattle.game_model.specs.Game.{GameData, IsGame, numbers}
 use Rattle.alpha_set.specs.Nodes.{NodeData, NodeFits}
 use Rattle.controller.specs.Certificates.{CertificateData}
+use Rattle.text_words.proofs.Numerals.{Small}
 use Rattle.cert_text.specs.Entries.{Entry, Vector, Mix, Next, Node, Point, entry_of, entry_after, in_node, limits_of, place_at, lacking_of, lacking_less}
 use Rattle.cert_text.proofs.LawGuards.{IsLater, IsNone}
-use Rattle.cert_text.proofs.LawWords.{Small}
 use Rattle.cert_text.proofs.LawSaid.{words_in, branch_numbers, vector-to, mix-to, in_node-next, in_node-node, in_node-point, NextFits, VectorFits, MixFits}
 use Rattle.cert_text.proofs.LawLists.{HeadBefore, weight_at, weight_hit, weight_miss, none_at, length_more}
 use Rattle.cert_text.proofs.LawParts.{cell_below}

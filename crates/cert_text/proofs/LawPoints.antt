@@ -12,9 +12,9 @@ use Rattle.alpha_set.specs.Nodes.{NodeData}
 use Rattle.belief.specs.Mixes.{AreMixes, mix_at}
 use Rattle.point_set.specs.Points.{PointData, PointFits, most_share}
 use Rattle.controller.specs.Certificates.{CertificateData}
+use Rattle.text_words.proofs.Numerals.{Small}
 use Rattle.cert_text.specs.Entries.{Entry, Point, Belief, Value, Mixes, Split, End, entry_of, entry_after, in_point, limits_of}
 use Rattle.cert_text.proofs.LawGuards.{IsLater}
-use Rattle.cert_text.proofs.LawWords.{Small}
 use Rattle.cert_text.proofs.LawSaid.{words_in, branch_numbers, belief-to, value-to, mixes-to, in_mixes-mix, in_mixes-past, in_point-split, in_point-point, in_point-end, BranchFits, BeliefFits, MixFits, ValueFits}
 use Rattle.cert_text.proofs.LawLists.{HeadBefore, length_more}
 use Rattle.cert_text.proofs.LawParts.{row_new}

@@ -8,13 +8,14 @@ use Rattle.game_model.specs.Game.{GameData, IsGame}
 use Rattle.alpha_set.specs.Nodes.{NodeData, NodeFits}
 use Rattle.point_set.specs.Points.{PointData, PointFits}
 use Rattle.controller.specs.Certificates.{CertificateData, CertificateFits, Ending, FractionData}
+use Rattle.text_words.proofs.Numerals.{Small, small_within}
 use Rattle.cert_text.specs.Answers.{IsTextFor}
 use Rattle.cert_text.specs.Text.{certificate_text}
 use Rattle.cert_text.specs.Entries.{Entry, Version, Outcome, Gap, Lower, Upper, Tail, Sizes, Start, Node, entry_of, entry_after, start_of}
 use Rattle.cert_text.specs.Made.{certificate_of}
 use Rattle.cert_text.specs.Reading.{AcceptsCert}
 use Rattle.cert_text.proofs.LawOnce.{accepted_once}
-use Rattle.cert_text.proofs.LawWords.{Small, small_within, IsBrief}
+use Rattle.cert_text.proofs.LawWords.{IsBrief}
 use Rattle.cert_text.proofs.LawSaid.{words_in, version-to, outcome-to, gap-to, lower-to, upper-to, tail-to, sizes-to, start-to, node-to, GapFits}
 use Rattle.cert_text.proofs.LawStages.{Head, AtNothing, AtVersion, AtOutcome, AtGap, AtLower, AtUpper, AtTail, AtSizes, AtStart, AtNode, place_of, zeros, made_head, HeadFits}
 use Rattle.cert_text.proofs.LawSteps.{step_version, step_outcome, step_gap, step_lower, step_upper, step_tail, step_sizes, step_start, step_first}

@@ -7,18 +7,22 @@ use Rattle.std.proofs.lemmas.Bool.{ltb-true, ltb-false}
 use Rattle.std.proofs.lemmas.Bool.Decides.{nat_tests}
 use Rattle.scaled_num.specs.Sums.{sum_of}
 use Rattle.text_words.specs.Lines.{Line}
+use Rattle.text_words.specs.Forms.{number_at, begins, limited, below_limit, each_within}
+use Rattle.text_words.proofs.Limits.{bind_ok, limited-ok, limited-to, below_limit-ok, below_limit-to, each_within-ok, each_within-to}
+use Rattle.text_words.proofs.Numerals.{Small, numbered, numbers_after-ok, numbers_after-to, no_number, one_is, two_are, four_are}
 use Rattle.game_model.specs.Branches.{Branch, mix_total}
 use Rattle.game_model.specs.Game.{IsWithin, AreCoprime}
 use Rattle.point_set.specs.Points.{most_share}
 use Rattle.controller.specs.Certificates.{Ending, FractionData, IsShort, most_members}
 use Rattle.cert_text.specs.declared.fault.CertKind.{CertKind}
+use Rattle.cert_text.specs.declared.fault.CertKind.TheVariants as kinds
 use Rattle.cert_text.specs.declared.place.Limits.{Limits}
 use Rattle.cert_text.specs.declared.place.Place.{Place}
 use Rattle.cert_text.specs.Text.{outcome_word}
-use Rattle.cert_text.specs.Forms.{number_at, begins, version_line, numbers_after, word_after, outcome_of, fraction_of, limited, below_limit, at_least, each_within, is_due, member_below, few, later_branch, sums_to_mix, most_belief, belief_total, none_lacks, fits_lack}
+use Rattle.cert_text.specs.Forms.{version_line, numbers_after, word_after, outcome_of, fraction_of, at_least, is_due, member_below, few, later_branch, sums_to_mix, most_belief, belief_total, none_lacks, fits_lack}
 use Rattle.cert_text.specs.Entries.{Entry, Version, Outcome, Gap, Lower, Upper, Tail, Sizes, Start, Node, Vector, Mix, Next, Point, Belief, Value, Mixes, Split, End, version_said, outcome_said, gap_said, bound_said, lower_said, upper_said, tail_said, sizes_said, start_said, node_said, vector_said, mix_said, branch_said, place_at, next_said, point_said, belief_said, value_within, value_said, mixes_said, split_said, end_said, in_node, in_point, in_mixes}
-use Rattle.cert_text.proofs.LawGuards.{bind_ok, IsLater, IsNone, limited-ok, limited-to, below_limit-ok, below_limit-to, at_least-ok, at_least-to, each_within-ok, each_within-to, is_due-ok, is_due-to, member_below-ok, member_below-to, few-ok, few-to, later_branch-ok, later_branch-to, sums_to_mix-ok, sums_to_mix-to, belief_total-ok, belief_total-to, none_lacks-ok, none_lacks-to, fits_lack-ok, fits_lack-to}
-use Rattle.cert_text.proofs.LawWords.{Small, numbered, numbers_after-ok, numbers_after-to, no_number, one_is, two_are, four_are, word_after-ok, word_after-to, version_line-ok, version_line-to, outcome_of-ok, outcome_of-to, fraction_word, IsBrief, fraction_of-ok, fraction_of-to}
+use Rattle.cert_text.proofs.LawGuards.{IsLater, IsNone, at_least-ok, at_least-to, is_due-ok, is_due-to, member_below-ok, member_below-to, few-ok, few-to, later_branch-ok, later_branch-to, sums_to_mix-ok, sums_to_mix-to, belief_total-ok, belief_total-to, none_lacks-ok, none_lacks-to, fits_lack-ok, fits_lack-to}
+use Rattle.cert_text.proofs.LawWords.{word_after-ok, word_after-to, version_line-ok, version_line-to, outcome_of-ok, outcome_of-to, fraction_word, IsBrief, fraction_of-ok, fraction_of-to}
 
 abbrev pub fraction_words : List ℕ → FractionData → Line
 fraction_words name f = name ∷ fraction_word f ∷ []
@@ -94,10 +98,10 @@ unfolding gap_said
 gap-ok line e h =
     let w = bind_ok (word_after (codes "gap") line) _ e h in
     let f = bind_ok (fraction_of w.0) _ e w.2 in
-    let n = bind_ok (limited (pos 0) (pos (2 ^ 40)) f.0.num) _ e f.2 in
-    let d = bind_ok (limited (pos 1) (pos (2 ^ 20)) f.0.den) _ e n.2 in
-    let n' = limited-ok (pos 0) (pos (2 ^ 40)) f.0.num n.0 n.1 in
-    let d' = limited-ok (pos 1) (pos (2 ^ 20)) f.0.den d.0 d.1 in
+    let n = bind_ok (limited kinds.Range (pos 0) (pos (2 ^ 40)) f.0.num) _ e f.2 in
+    let d = bind_ok (limited kinds.Range (pos 1) (pos (2 ^ 20)) f.0.den) _ e n.2 in
+    let n' = limited-ok kinds.Range (pos 0) (pos (2 ^ 40)) f.0.num n.0 n.1 in
+    let d' = limited-ok kinds.Range (pos 1) (pos (2 ^ 20)) f.0.den d.0 d.1 in
     let g : FractionData = record { num = n.0; den = d.0 } in
     (g, (said_is (Gap g) e d.2, fraction_again (codes "gap") line w.0 f.0 n.0 d.0 (word_after-ok (codes "gap") line w.0 w.1) (fraction_of-ok w.0 f.0 f.1).0 n'.1 d'.1), (n'.0, d'.0))
 
@@ -105,7 +109,7 @@ pub gap-to : (f : FractionData) → IsBrief f → GapFits f → gap_said (words_
 unfolding gap_said
 gap-to f brief fits =
     rw (word_after-to (codes "gap") (fraction_word f)) (rw (fraction_of-to f brief)
-    (rw (limited-to (pos 0) (pos (2 ^ 40)) f.num fits.0, limited-to (pos 1) (pos (2 ^ 20)) f.den fits.1) refl))
+    (rw (limited-to kinds.Range (pos 0) (pos (2 ^ 40)) f.num fits.0, limited-to kinds.Range (pos 1) (pos (2 ^ 20)) f.den fits.1) refl))
 
 abbrev whole : FractionData → Result FractionData CertKind
 whole x = Ok x
@@ -178,7 +182,7 @@ sizes-ok states line e h =
     let p = bind_ok (at_least (pos states) (number_at ns.0 1)) _ e n.2 in
     let nodes = bind_ok (few n.0) _ e p.2 in
     let points = bind_ok (few p.0) _ e nodes.2 in
-    let w = numbers_after-ok (codes "sizes") 2 line ns.0 ns.1 in
+    let w = numbers_after-ok kinds.Shape kinds.Number (codes "sizes") 2 line ns.0 ns.1 in
     let n' = at_least-ok (pos 1) (number_at ns.0 0) n.0 n.1 in
     let p' = at_least-ok (pos states) (number_at ns.0 1) p.0 p.1 in
     let a = few-ok n.0 nodes.0 (omega (arith, ints, n'.0)) nodes.1 in
@@ -199,7 +203,7 @@ pub sizes-to : (states nodes points : ℕ) → SizesFit states nodes points → 
 unfolding sizes_said
 sizes-to states nodes points f =
     let small : AllByRecursion Small (pos nodes ∷ pos points ∷ []) = (omega (arith, f.most_nodes), (omega (arith, f.most_points), tt)) in
-    rw (numbers_after-to (codes "sizes") 2 (pos nodes ∷ pos points ∷ []) refl small)
+    rw (numbers_after-to kinds.Shape kinds.Number (codes "sizes") 2 (pos nodes ∷ pos points ∷ []) refl small)
     (rw (at_least-to (pos 1) (pos nodes) (omega (arith, ints, f.some_node)), at_least-to (pos states) (pos points) (omega (arith, ints, f.some_points)))
     (rw (few-to nodes f.most_nodes, few-to points f.most_points) refl))
 
@@ -211,7 +215,7 @@ start-ok nodes points line e h =
     let j = bind_ok (at_least (pos 0) (number_at ns.0 1)) _ e i.2 in
     let n = bind_ok (member_below nodes i.0) _ e j.2 in
     let p = bind_ok (member_below points j.0) _ e n.2 in
-    let w = numbers_after-ok (codes "start") 2 line ns.0 ns.1 in
+    let w = numbers_after-ok kinds.Shape kinds.Number (codes "start") 2 line ns.0 ns.1 in
     let i' = at_least-ok (pos 0) (number_at ns.0 0) i.0 i.1 in
     let j' = at_least-ok (pos 0) (number_at ns.0 1) j.0 j.1 in
     let a = member_below-ok nodes i.0 n.0 i'.0 n.1 in
@@ -222,7 +226,7 @@ start-ok nodes points line e h =
 pub start-to : (nodes points node point : ℕ) → AllByRecursion Small (pos node ∷ pos point ∷ []) → node < nodes → point < points → start_said nodes points (words_in (Start node point)) ≡ Ok (Start node point)
 unfolding start_said
 start-to nodes points node point small a b =
-    rw (numbers_after-to (codes "start") 2 (pos node ∷ pos point ∷ []) refl small)
+    rw (numbers_after-to kinds.Shape kinds.Number (codes "start") 2 (pos node ∷ pos point ∷ []) refl small)
     (rw (at_least-to (pos 0) (pos node) (omega (arith, ints)), at_least-to (pos 0) (pos point) (omega (arith, ints)))
     (rw (member_below-to nodes node a, member_below-to points point b) refl))
 
@@ -234,14 +238,14 @@ node-ok number lacking line e h =
     let ns = bind_ok (numbers_after (codes "node") 1 line) _ e h in
     let d = bind_ok (is_due number (number_at ns.0 0)) _ e ns.2 in
     let l = bind_ok (none_lacks lacking) _ e d.2 in
-    let w = numbers_after-ok (codes "node") 1 line ns.0 ns.1 in
+    let w = numbers_after-ok kinds.Shape kinds.Number (codes "node") 1 line ns.0 ns.1 in
     let all = one_is ns.0 (pos number) w.1 (is_due-ok number (number_at ns.0 0) d.0 d.1) in
     ((said_is (Node number) e l.2, w.0 ∙ ap (λ (xs : List ℤ). numbered (codes "node") xs) all), none_lacks-ok lacking l.0 l.1)
 
 pub node-to : (number : ℕ) (lacking : List ℤ) → Small (pos number) → AllByRecursion IsNone lacking → node_said number lacking (words_in (Node number)) ≡ Ok (Node number)
 unfolding node_said
 node-to number lacking small none =
-    rw (numbers_after-to (codes "node") 1 (pos number ∷ []) refl (small, tt)) (rw (is_due-to number, none_lacks-to lacking none) refl)
+    rw (numbers_after-to kinds.Shape kinds.Number (codes "node") 1 (pos number ∷ []) refl (small, tt)) (rw (is_due-to number, none_lacks-to lacking none) refl)
 
 pub record VectorFits (limits : Limits) (ns : List ℤ) : Type 0 where
   pub long : length ns ≡ limits.states
@@ -251,14 +255,14 @@ pub vector-ok : (limits : Limits) (line : Line) (e : Entry) → vector_said limi
 unfolding vector_said
 vector-ok limits line e h =
     let ns = bind_ok (numbers_after (codes "vector") limits.states line) _ e h in
-    let a = bind_ok (each_within (neg_ℤ limits.span) limits.span ns.0) _ e ns.2 in
-    let w = numbers_after-ok (codes "vector") limits.states line ns.0 ns.1 in
-    (ns.0, (said_is (Vector ns.0) e a.2, w.0), record { long = w.1; each = each_within-ok (neg_ℤ limits.span) limits.span ns.0 a.0 a.1 })
+    let a = bind_ok (each_within kinds.Range (neg_ℤ limits.span) limits.span ns.0) _ e ns.2 in
+    let w = numbers_after-ok kinds.Shape kinds.Number (codes "vector") limits.states line ns.0 ns.1 in
+    (ns.0, (said_is (Vector ns.0) e a.2, w.0), record { long = w.1; each = each_within-ok kinds.Range (neg_ℤ limits.span) limits.span ns.0 a.0 a.1 })
 
 pub vector-to : (limits : Limits) (ns : List ℤ) → AllByRecursion Small ns → VectorFits limits ns → vector_said limits (words_in (Vector ns)) ≡ Ok (Vector ns)
 unfolding vector_said
 vector-to limits ns small f =
-    rw (numbers_after-to (codes "vector") limits.states ns f.long small) (rw (each_within-to (neg_ℤ limits.span) limits.span ns f.each) refl)
+    rw (numbers_after-to kinds.Shape kinds.Number (codes "vector") limits.states ns f.long small) (rw (each_within-to kinds.Range (neg_ℤ limits.span) limits.span ns f.each) refl)
 
 pub record MixFits (actions : ℕ) (ns : List ℤ) : Type 0 where
   pub long : length ns ≡ actions
@@ -269,15 +273,15 @@ pub mix-ok : (limits : Limits) (line : Line) (e : Entry) → mix_said limits lin
 unfolding mix_said
 mix-ok limits line e h =
     let ns = bind_ok (numbers_after (codes "mix") limits.own_actions line) _ e h in
-    let a = bind_ok (each_within (pos 0) (pos mix_total) ns.0) _ e ns.2 in
+    let a = bind_ok (each_within kinds.Range (pos 0) (pos mix_total) ns.0) _ e ns.2 in
     let s = bind_ok (sums_to_mix ns.0) _ e a.2 in
-    let w = numbers_after-ok (codes "mix") limits.own_actions line ns.0 ns.1 in
-    (ns.0, (said_is (Mix ns.0) e s.2, w.0), record { long = w.1; each = each_within-ok (pos 0) (pos mix_total) ns.0 a.0 a.1; sums = sums_to_mix-ok ns.0 s.0 s.1 })
+    let w = numbers_after-ok kinds.Shape kinds.Number (codes "mix") limits.own_actions line ns.0 ns.1 in
+    (ns.0, (said_is (Mix ns.0) e s.2, w.0), record { long = w.1; each = each_within-ok kinds.Range (pos 0) (pos mix_total) ns.0 a.0 a.1; sums = sums_to_mix-ok ns.0 s.0 s.1 })
 
 pub mix-to : (limits : Limits) (ns : List ℤ) → AllByRecursion Small ns → MixFits limits.own_actions ns → mix_said limits (words_in (Mix ns)) ≡ Ok (Mix ns)
 unfolding mix_said
 mix-to limits ns small f =
-    rw (numbers_after-to (codes "mix") limits.own_actions ns f.long small) (rw (each_within-to (pos 0) (pos mix_total) ns f.each, sums_to_mix-to ns f.sums) refl)
+    rw (numbers_after-to kinds.Shape kinds.Number (codes "mix") limits.own_actions ns f.long small) (rw (each_within-to kinds.Range (pos 0) (pos mix_total) ns f.each, sums_to_mix-to ns f.sums) refl)
 
 pub record BranchFits (most : ℤ) (members : ℕ) (place : Place) (b : Branch) : Type 0 where
   pub own : b.own < place.limits.own_actions
@@ -297,17 +301,17 @@ branch-ok : (name : List ℕ) (most : ℤ) (members : ℕ) (place : Place) (line
 unfolding branch_said
 branch-ok name most members place line b h =
     let ns = bind_ok (numbers_after name 4 line) _ b h in
-    let own = bind_ok (below_limit place.limits.own_actions (number_at ns.0 0)) _ b ns.2 in
-    let seen = bind_ok (below_limit place.limits.observations (number_at ns.0 1)) _ b own.2 in
+    let own = bind_ok (below_limit kinds.Range place.limits.own_actions (number_at ns.0 0)) _ b ns.2 in
+    let seen = bind_ok (below_limit kinds.Range place.limits.observations (number_at ns.0 1)) _ b own.2 in
     let k = bind_ok (at_least (pos 0) (number_at ns.0 2)) _ b seen.2 in
-    let weight = bind_ok (limited (pos 1) most (number_at ns.0 3)) _ b k.2 in
+    let weight = bind_ok (limited kinds.Range (pos 1) most (number_at ns.0 3)) _ b k.2 in
     let later = bind_ok (later_branch place.latest own.0 seen.0 k.0) _ b weight.2 in
     let member = bind_ok (member_below members k.0) _ b later.2 in
-    let w = numbers_after-ok name 4 line ns.0 ns.1 in
-    let own' = below_limit-ok place.limits.own_actions (number_at ns.0 0) own.0 own.1 in
-    let seen' = below_limit-ok place.limits.observations (number_at ns.0 1) seen.0 seen.1 in
+    let w = numbers_after-ok kinds.Shape kinds.Number name 4 line ns.0 ns.1 in
+    let own' = below_limit-ok kinds.Range place.limits.own_actions (number_at ns.0 0) own.0 own.1 in
+    let seen' = below_limit-ok kinds.Range place.limits.observations (number_at ns.0 1) seen.0 seen.1 in
     let k' = at_least-ok (pos 0) (number_at ns.0 2) k.0 k.1 in
-    let weight' = limited-ok (pos 1) most (number_at ns.0 3) weight.0 weight.1 in
+    let weight' = limited-ok kinds.Range (pos 1) most (number_at ns.0 3) weight.0 weight.1 in
     let member' = member_below-ok members k.0 member.0 k'.0 member.1 in
     let all = four_are ns.0 (pos own.0) (pos seen.0) (pos member.0) weight.0 w.1 own'.1 seen'.1 (k'.1 ∙ member'.1) weight'.1 in
     let d : Branch = record { own = own.0; seen = seen.0; member = member.0; weight = weight.0 } in
@@ -324,8 +328,8 @@ branch-to : (name : List ℕ) (most : ℤ) (members : ℕ) (place : Place) (b : 
     → branch_said name most members place (numbered name (branch_numbers b)) ≡ Ok b
 unfolding branch_said
 branch-to name most members place b small f =
-    rw (numbers_after-to name 4 (branch_numbers b) refl small)
-    (rw (below_limit-to place.limits.own_actions b.own f.own, below_limit-to place.limits.observations b.seen f.seen, at_least-to (pos 0) (pos b.member) (omega (arith, ints)), limited-to (pos 1) most b.weight f.weight)
+    rw (numbers_after-to kinds.Shape kinds.Number name 4 (branch_numbers b) refl small)
+    (rw (below_limit-to kinds.Range place.limits.own_actions b.own f.own, below_limit-to kinds.Range place.limits.observations b.seen f.seen, at_least-to (pos 0) (pos b.member) (omega (arith, ints)), limited-to kinds.Range (pos 1) most b.weight f.weight)
     (rw (later_branch-to place.latest b.own b.seen b.member f.later, member_below-to members b.member f.member) refl))
 
 pub record NextFits (place : Place) (b : Branch) : Type 0 where
@@ -364,14 +368,14 @@ point-ok number lacking line e h =
     let ns = bind_ok (numbers_after (codes "point") 1 line) _ e h in
     let d = bind_ok (is_due number (number_at ns.0 0)) _ e ns.2 in
     let l = bind_ok (none_lacks lacking) _ e d.2 in
-    let w = numbers_after-ok (codes "point") 1 line ns.0 ns.1 in
+    let w = numbers_after-ok kinds.Shape kinds.Number (codes "point") 1 line ns.0 ns.1 in
     let all = one_is ns.0 (pos number) w.1 (is_due-ok number (number_at ns.0 0) d.0 d.1) in
     ((said_is (Point number) e l.2, w.0 ∙ ap (λ (xs : List ℤ). numbered (codes "point") xs) all), none_lacks-ok lacking l.0 l.1)
 
 pub point-to : (number : ℕ) (lacking : List ℤ) → Small (pos number) → AllByRecursion IsNone lacking → point_said number lacking (words_in (Point number)) ≡ Ok (Point number)
 unfolding point_said
 point-to number lacking small none =
-    rw (numbers_after-to (codes "point") 1 (pos number ∷ []) refl (small, tt)) (rw (is_due-to number, none_lacks-to lacking none) refl)
+    rw (numbers_after-to kinds.Shape kinds.Number (codes "point") 1 (pos number ∷ []) refl (small, tt)) (rw (is_due-to number, none_lacks-to lacking none) refl)
 
 pub record BeliefFits (states : ℕ) (ns : List ℤ) : Type 0 where
   pub long : length ns ≡ states
@@ -383,16 +387,16 @@ pub belief-ok : (limits : Limits) (line : Line) (e : Entry) → belief_said limi
 unfolding belief_said
 belief-ok limits line e h =
     let ns = bind_ok (numbers_after (codes "belief") limits.states line) _ e h in
-    let a = bind_ok (each_within (pos 0) (pos most_belief) ns.0) _ e ns.2 in
+    let a = bind_ok (each_within kinds.Range (pos 0) (pos most_belief) ns.0) _ e ns.2 in
     let s = bind_ok (belief_total ns.0) _ e a.2 in
-    let w = numbers_after-ok (codes "belief") limits.states line ns.0 ns.1 in
+    let w = numbers_after-ok kinds.Shape kinds.Number (codes "belief") limits.states line ns.0 ns.1 in
     let t = belief_total-ok ns.0 s.0 s.1 in
-    (ns.0, (said_is (Belief ns.0) e s.2, w.0), record { long = w.1; each = each_within-ok (pos 0) (pos most_belief) ns.0 a.0 a.1; sums = t.0; coprime = t.1 })
+    (ns.0, (said_is (Belief ns.0) e s.2, w.0), record { long = w.1; each = each_within-ok kinds.Range (pos 0) (pos most_belief) ns.0 a.0 a.1; sums = t.0; coprime = t.1 })
 
 pub belief-to : (limits : Limits) (ns : List ℤ) → AllByRecursion Small ns → BeliefFits limits.states ns → belief_said limits (words_in (Belief ns)) ≡ Ok (Belief ns)
 unfolding belief_said
 belief-to limits ns small f =
-    rw (numbers_after-to (codes "belief") limits.states ns f.long small) (rw (each_within-to (pos 0) (pos most_belief) ns f.each, belief_total-to ns f.sums f.coprime) refl)
+    rw (numbers_after-to kinds.Shape kinds.Number (codes "belief") limits.states ns f.long small) (rw (each_within-to kinds.Range (pos 0) (pos most_belief) ns f.each, belief_total-to ns f.sums f.coprime) refl)
 
 abbrev pub ValueFits : Limits → ℤ → ℤ → Type 0
 ValueFits limits total value = IsWithin (neg_ℤ (limits.span *ℤ total)) (limits.span *ℤ total) value
@@ -401,16 +405,16 @@ pub value-ok : (limits : Limits) (total : ℤ) (line : Line) (e : Entry) → val
 unfolding value_said value_within
 value-ok limits total line e h =
     let ns = bind_ok (numbers_after (codes "value") 1 line) _ e h in
-    let v = bind_ok (limited (neg_ℤ (limits.span *ℤ total)) (limits.span *ℤ total) (number_at ns.0 0)) _ e ns.2 in
-    let w = numbers_after-ok (codes "value") 1 line ns.0 ns.1 in
-    let v' = limited-ok (neg_ℤ (limits.span *ℤ total)) (limits.span *ℤ total) (number_at ns.0 0) v.0 v.1 in
+    let v = bind_ok (limited kinds.Range (neg_ℤ (limits.span *ℤ total)) (limits.span *ℤ total) (number_at ns.0 0)) _ e ns.2 in
+    let w = numbers_after-ok kinds.Shape kinds.Number (codes "value") 1 line ns.0 ns.1 in
+    let v' = limited-ok kinds.Range (neg_ℤ (limits.span *ℤ total)) (limits.span *ℤ total) (number_at ns.0 0) v.0 v.1 in
     let all = one_is ns.0 v.0 w.1 v'.1 in
     (v.0, (said_is (Value v.0) e v.2, w.0 ∙ ap (λ (xs : List ℤ). numbered (codes "value") xs) all), v'.0)
 
 pub value-to : (limits : Limits) (total value : ℤ) → Small value → ValueFits limits total value → value_said limits total (words_in (Value value)) ≡ Ok (Value value)
 unfolding value_said value_within
 value-to limits total value small f =
-    rw (numbers_after-to (codes "value") 1 (value ∷ []) refl (small, tt)) (rw (limited-to (neg_ℤ (limits.span *ℤ total)) (limits.span *ℤ total) value f) refl)
+    rw (numbers_after-to kinds.Shape kinds.Number (codes "value") 1 (value ∷ []) refl (small, tt)) (rw (limited-to kinds.Range (neg_ℤ (limits.span *ℤ total)) (limits.span *ℤ total) value f) refl)
 
 state_first : (ns : List ℤ) (count : ℕ) (x : ℤ) → length ns ≡ count + 1 → number_at ns 0 ≡ x → (ns ≡ x ∷ drop 1 ns) × (length (drop 1 ns) ≡ count)
 state_first [] count x e p = absurd (omega arith)
@@ -420,21 +424,21 @@ pub mixes-ok : (limits : Limits) (state : ℕ) (line : Line) (e : Entry) → mix
 unfolding mixes_said
 mixes-ok limits state line e h =
     let ns = bind_ok (numbers_after (codes "mix") (limits.informed_actions + 1) line) _ e h in
-    let a = bind_ok (each_within (pos 0) (pos mix_total) (drop 1 ns.0)) _ e ns.2 in
+    let a = bind_ok (each_within kinds.Range (pos 0) (pos mix_total) (drop 1 ns.0)) _ e ns.2 in
     let d = bind_ok (is_due state (number_at ns.0 0)) _ e a.2 in
     let s = bind_ok (sums_to_mix (drop 1 ns.0)) _ e d.2 in
-    let w = numbers_after-ok (codes "mix") (limits.informed_actions + 1) line ns.0 ns.1 in
+    let w = numbers_after-ok kinds.Shape kinds.Number (codes "mix") (limits.informed_actions + 1) line ns.0 ns.1 in
     let f = state_first ns.0 limits.informed_actions (pos state) w.1 (is_due-ok state (number_at ns.0 0) d.0 d.1) in (
       drop 1 ns.0,
       (said_is (Mixes state (drop 1 ns.0)) e s.2, w.0 ∙ ap (λ (xs : List ℤ). numbered (codes "mix") xs) f.0),
-      record { long = f.1; each = each_within-ok (pos 0) (pos mix_total) (drop 1 ns.0) a.0 a.1; sums = sums_to_mix-ok (drop 1 ns.0) s.0 s.1 },
+      record { long = f.1; each = each_within-ok kinds.Range (pos 0) (pos mix_total) (drop 1 ns.0) a.0 a.1; sums = sums_to_mix-ok (drop 1 ns.0) s.0 s.1 },
     )
 
 pub mixes-to : (limits : Limits) (state : ℕ) (ns : List ℤ) → AllByRecursion Small (pos state ∷ ns) → MixFits limits.informed_actions ns → mixes_said limits state (words_in (Mixes state ns)) ≡ Ok (Mixes state ns)
 unfolding mixes_said
 mixes-to limits state ns small f =
-    rw (numbers_after-to (codes "mix") (limits.informed_actions + 1) (pos state ∷ ns) (omega (arith, f.long)) small)
-    (rw (each_within-to (pos 0) (pos mix_total) ns f.each) (rw (is_due-to state, sums_to_mix-to ns f.sums) refl))
+    rw (numbers_after-to kinds.Shape kinds.Number (codes "mix") (limits.informed_actions + 1) (pos state ∷ ns) (omega (arith, f.long)) small)
+    (rw (each_within-to kinds.Range (pos 0) (pos mix_total) ns f.each) (rw (is_due-to state, sums_to_mix-to ns f.sums) refl))
 
 pub split-ok : (place : Place) (line : Line) (e : Entry) → split_said place line ≡ Ok e → (b : Branch) × Is line e (Split b) × BranchFits most_share place.points place b
 unfolding split_said
@@ -451,12 +455,12 @@ pub end-ok : (line : Line) (e : Entry) → end_said line ≡ Ok e → Is line e 
 unfolding end_said
 end-ok line e h =
     let ns = bind_ok (numbers_after (codes "end") 0 line) _ e h in
-    let w = numbers_after-ok (codes "end") 0 line ns.0 ns.1 in
+    let w = numbers_after-ok kinds.Shape kinds.Number (codes "end") 0 line ns.0 ns.1 in
     (said_is End e ns.2, w.0 ∙ ap (λ (xs : List ℤ). numbered (codes "end") xs) (no_number ns.0 w.1))
 
 pub end-to : end_said (words_in End) ≡ Ok End
 unfolding end_said
-end-to = rw (numbers_after-to (codes "end") 0 [] refl tt) refl
+end-to = rw (numbers_after-to kinds.Shape kinds.Number (codes "end") 0 [] refl tt) refl
 
 -- ---- behind a node's steps, and behind a point's shares
 

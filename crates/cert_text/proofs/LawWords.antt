@@ -1,118 +1,26 @@
--- The words of the lines, and the numbers and fractions in them.
-use Rattle.std.proofs.Common.{◌≡◌, ℕ, suc, ◌^◌, ◌<◌, Bool, true, false, cond, ◌&&◌, eqb, List, [], ◌∷◌, ◌++◌, length, map, Option, Some, None, Result, Ok, Err, ℤ, pos, negsuc, refl, sym, ap, subst, ◌∙◌, arith}
-use Rattle.std.specs.Prelude.{unsigned_abs, codes, ◌==◌}
+-- The words of the lines, and the fractions in them.
+use Rattle.std.proofs.Common.{◌≡◌, ℕ, suc, ◌^◌, ◌<◌, Bool, true, false, cond, ◌&&◌, List, [], ◌∷◌, ◌++◌, map, Result, Ok, Err, ℤ, pos, negsuc, refl, sym, ap, subst, ◌∙◌, arith}
+use Rattle.std.specs.Prelude.{codes, ◌==◌}
 use Rattle.std.specs.List.{AllByRecursion, slice_split, onto_first, join_with_byte}
 use Rattle.std.specs.Option.{ok_or}
 use Rattle.std.specs.Str.{bytes_eq}
 use Rattle.std.specs.Str.Parse.{AllDigits}
 use Rattle.std.specs.Fmt.{decimal, signed_decimal}
-use Rattle.std.proofs.lemmas.List.{length-map}
 use Rattle.std.proofs.lemmas.List.Splits.{slice_split-cons_yes, slice_split-cons_no, join_with_byte-slice_split}
-use Rattle.std.proofs.lemmas.Slice.Eq.{bytes_eq-Decides}
 use Rattle.std.proofs.lemmas.Str.Parse.{digit_from_value}
 use Rattle.std.proofs.lemmas.Fmt.{decimal_is_IsNumeral_wide}
-use Rattle.std.proofs.lemmas.Int.{ints}
-use Rattle.std.proofs.lemmas.Bool.{eqb-true}
 use Rattle.std.proofs.lemmas.Bool.Decides.{nat_tests}
 use Rattle.text_words.specs.Lines.{Line, Word}
-use Rattle.text_words.specs.Numbers.{number_of, numbers_of}
-use Rattle.text_words.proofs.Printed.{number_of-printed, number_of-prints, numbers_of-printed, numbers_of-prints, signed_decimal-above}
+use Rattle.text_words.specs.Numbers.{number_of}
+use Rattle.text_words.proofs.Printed.{number_of-printed, number_of-prints, signed_decimal-above}
 use Rattle.text_words.proofs.Whole.{IsWord}
-use Rattle.game_model.specs.Game.{IsWithin}
+use Rattle.text_words.proofs.Limits.{bind_ok, cond_ok, or_some, and_true}
+use Rattle.text_words.proofs.Numerals.{Small, bytes_same, bytes_is}
 use Rattle.controller.specs.Certificates.{Closed, Ending, FractionData, Full as FullRun, Trials}
 use Rattle.cert_text.specs.declared.fault.CertKind.{CertKind}
 use Rattle.cert_text.specs.declared.fault.CertKind.TheVariants as kinds
-use Rattle.cert_text.specs.Forms.{number_at, are_words, version_line, numbers_said, numbers_after, word_after, outcome_of, fraction_from, fraction_of}
+use Rattle.cert_text.specs.Forms.{are_words, version_line, word_after, outcome_of, fraction_from, fraction_of}
 use Rattle.cert_text.specs.Text.{outcome_word}
-use Rattle.cert_text.proofs.LawGuards.{bind_ok, cond_ok, and_true}
-
--- a number of at most 36 digits
-abbrev pub Small : ℤ → Type 0
-Small z = unsigned_abs z < 10 ^ 36
-
-pub small_within : (low high x : ℤ) → unsigned_abs low < 10 ^ 36 → unsigned_abs high < 10 ^ 36 → IsWithin low high x → Small x
-small_within (pos l) (pos h) (pos n) a b w = omega (arith, ints, w.0, w.1)
-small_within (pos l) (pos h) (negsuc n) a b w = absurd (omega (arith, ints, w.0))
-small_within (pos l) (negsuc h) (pos n) a b w = absurd (omega (arith, ints, w.1))
-small_within (pos l) (negsuc h) (negsuc n) a b w = absurd (omega (arith, ints, w.0))
-small_within (negsuc l) (pos h) (pos n) a b w = omega (arith, ints, w.0, w.1)
-small_within (negsuc l) (pos h) (negsuc n) a b w = omega (arith, ints, w.0, w.1)
-small_within (negsuc l) (negsuc h) (pos n) a b w = absurd (omega (arith, ints, w.1))
-small_within (negsuc l) (negsuc h) (negsuc n) a b w = omega (arith, ints, w.0, w.1)
-
-pub bytes_same : (xs : List ℕ) → bytes_eq xs xs ≡ true
-bytes_same xs = (bytes_eq-Decides xs xs).1 refl
-
-pub bytes_is : (xs ys : List ℕ) → bytes_eq xs ys ≡ true → xs ≡ ys
-bytes_is xs ys e = (bytes_eq-Decides xs ys).0 e
-
-cond_then : {A : Type 0} (b : Bool) (m : Result A CertKind) (kind : CertKind) (y : A) → cond b m (Err kind) ≡ Ok y → (b ≡ true) × (m ≡ Ok y)
-cond_then true m kind y h = (refl, h)
-cond_then false m kind y h = absurd cc
-
-or_some : {A : Type 0} (o : Option A) (kind : CertKind) (y : A) → ok_or o kind ≡ Ok y → o ≡ Some y
-or_some (Some x) kind y h = cc
-or_some None kind y h = absurd cc
-
--- a word and numbers
-abbrev pub numbered : List ℕ → List ℤ → Line
-numbered name ns = name ∷ map signed_decimal ns
-
-abbrev pub NumbersAre : List ℕ → ℕ → Line → List ℤ → Type 0
-NumbersAre name count line ns = (line ≡ numbered name ns) × (length ns ≡ count) × AllByRecursion Small ns
-
-pub numbers_after-ok : (name : List ℕ) (count : ℕ) (line : Line) (ns : List ℤ) → numbers_after name count line ≡ Ok ns → NumbersAre name count line ns
-unfolding numbers_after numbers_said
-numbers_after-ok name count [] ns h = absurd cc
-numbers_after-ok name count (word ∷ words) ns h =
-    let p = cond_then (bytes_eq word name && (length words == count)) (ok_or (numbers_of words) kinds.Number) kinds.Shape ns h in
-    let q = and_true (bytes_eq word name) (length words == count) p.0 in
-    let n = numbers_of-prints words ns (or_some (numbers_of words) kinds.Number ns p.1) in
-    let counted : length words ≡ count = eqb-true (length words) count q.1 in
-    (ap (λ (w : List ℕ). w ∷ words) (bytes_is word name q.0) ∙ ap (λ (ws : Line). name ∷ ws) n.0, sym (length-map ns signed_decimal) ∙ sym (ap length n.0) ∙ counted, n.1)
-
-eqb_same : (n : ℕ) → eqb n n ≡ true
-eqb_same n = grind (arith, nat_tests)
-
-numbers_after-same : (name : List ℕ) (ns : List ℤ) → AllByRecursion Small ns → numbers_after name (length ns) (numbered name ns) ≡ Ok ns
-unfolding numbers_after numbers_said
-numbers_after-same name ns small =
-    rw (bytes_same name) (rw (length-map ns signed_decimal) (rw (eqb_same (length ns)) (rw (numbers_of-printed ns small) refl)))
-
-pub numbers_after-to : (name : List ℕ) (count : ℕ) (ns : List ℤ) → length ns ≡ count → AllByRecursion Small ns → numbers_after name count (numbered name ns) ≡ Ok ns
-numbers_after-to name count ns e small = subst (λ (k : ℕ). numbers_after name k (numbered name ns) ≡ Ok ns) e (numbers_after-same name ns small)
-
-pub no_number : (ns : List ℤ) → length ns ≡ 0 → ns ≡ []
-no_number [] e = refl
-no_number (x ∷ ns) e = absurd (omega arith)
-
-one_number : (ns : List ℤ) → length ns ≡ 1 → ns ≡ number_at ns 0 ∷ []
-one_number [] e = absurd (omega arith)
-one_number (x ∷ []) e = refl
-one_number (x ∷ y ∷ ns) e = absurd (omega arith)
-
-two_numbers : (ns : List ℤ) → length ns ≡ 2 → ns ≡ number_at ns 0 ∷ number_at ns 1 ∷ []
-two_numbers [] e = absurd (omega arith)
-two_numbers (x ∷ []) e = absurd (omega arith)
-two_numbers (x ∷ y ∷ []) e = refl
-two_numbers (x ∷ y ∷ z ∷ ns) e = absurd (omega arith)
-
-four_numbers : (ns : List ℤ) → length ns ≡ 4 → ns ≡ number_at ns 0 ∷ number_at ns 1 ∷ number_at ns 2 ∷ number_at ns 3 ∷ []
-four_numbers [] e = absurd (omega arith)
-four_numbers (x ∷ []) e = absurd (omega arith)
-four_numbers (x ∷ y ∷ []) e = absurd (omega arith)
-four_numbers (x ∷ y ∷ z ∷ []) e = absurd (omega arith)
-four_numbers (x ∷ y ∷ z ∷ w ∷ []) e = refl
-four_numbers (x ∷ y ∷ z ∷ w ∷ v ∷ ns) e = absurd (omega arith)
-
-pub one_is : (ns : List ℤ) (x : ℤ) → length ns ≡ 1 → number_at ns 0 ≡ x → ns ≡ x ∷ []
-one_is ns x e p = cc (one_number ns e)
-
-pub two_are : (ns : List ℤ) (x y : ℤ) → length ns ≡ 2 → number_at ns 0 ≡ x → number_at ns 1 ≡ y → ns ≡ x ∷ y ∷ []
-two_are ns x y e p q = cc (two_numbers ns e)
-
-pub four_are : (ns : List ℤ) (x y z w : ℤ) → length ns ≡ 4 → number_at ns 0 ≡ x → number_at ns 1 ≡ y → number_at ns 2 ≡ z → number_at ns 3 ≡ w → ns ≡ x ∷ y ∷ z ∷ w ∷ []
-four_are ns x y z w e p q r t = cc (four_numbers ns e)
 
 -- a word after a word
 

@@ -1,5 +1,5 @@
-pub mod Words
-pub mod Limits
+pub mod Below
+pub mod NumberKinds
 pub mod Divisor
 pub mod LawOnce
 pub mod LawGuards

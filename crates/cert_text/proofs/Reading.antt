@@ -2,13 +2,13 @@
 use Rattle.std.proofs.Common.{◌≡◌, ℕ, ◌+◌, List, [], ◌∷◌, ◌++◌, length, Result, Ok, Err, refl, sym, ap, ◌∙◌, append_assoc, subst}
 use Rattle.std.specs.Result.{MatchResult}
 use Rattle.text_words.specs.Lines.{Line}
+use Rattle.text_words.specs.Forms.{◌>>=◌}
 use Rattle.cert_text.specs.declared.fault.CertKind.{CertKind}
 use Rattle.cert_text.specs.declared.fault.LineFault.{LineFault}
 use Rattle.cert_text.specs.declared.fault.LineFault.TheVariants.{Refused, OutOfMemory}
 use Rattle.cert_text.specs.declared.fault.CertFault.{CertFault}
 use Rattle.cert_text.specs.declared.place.Place.{Place}
 use Rattle.cert_text.specs.Fault.{at_line, Fails, Gives}
-use Rattle.cert_text.specs.Forms.{◌>>=◌}
 use Rattle.cert_text.specs.Answers.{IsFaultOf}
 use Rattle.cert_text.specs.Entries.{Entry, entry_of, place_after, behind}
 use Rattle.cert_text.specs.Reading.{line_at, Say, Reads, IsUnfinished}

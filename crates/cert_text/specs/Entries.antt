@@ -2,6 +2,7 @@
 use Rattle.std.specs.Prelude.{ℕ, ◌+◌, ◌*◌, ◌/◌, ◌^◌, nat_lt, List, [], ◌∷◌, map, replicate, take, drop, Result, Ok, Err, ℤ, pos, neg_ℤ, ◌-ℤ◌, ◌*ℤ◌, if◌then◌else◌, slice_index_or, slice_set, codes}
 use Rattle.scaled_num.specs.Sums.{below, sum_of}
 use Rattle.text_words.specs.Lines.{Line}
+use Rattle.text_words.specs.Forms.{◌>>=◌, number_at, begins, limited, below_limit, each_within}
 use Rattle.game_model.specs.Branches.{Branch, mix_total}
 use Rattle.game_model.specs.Game.{GameData, span}
 use Rattle.point_set.specs.Points.{most_share}
@@ -12,7 +13,7 @@ use Rattle.cert_text.specs.declared.place.Latest.{Latest}
 use Rattle.cert_text.specs.declared.place.Latest.TheVariants as latest
 use Rattle.cert_text.specs.declared.place.Limits.{Limits}
 use Rattle.cert_text.specs.declared.place.Place.{Place}
-use Rattle.cert_text.specs.Forms.{◌>>=◌, number_at, begins, version_line, numbers_after, word_after, outcome_of, fraction_of, limited, below_limit, at_least, each_within, is_due, member_below, few, later_branch, sums_to_mix, most_belief, belief_total, none_lacks, fits_lack}
+use Rattle.cert_text.specs.Forms.{version_line, numbers_after, word_after, outcome_of, fraction_of, at_least, is_due, member_below, few, later_branch, sums_to_mix, most_belief, belief_total, none_lacks, fits_lack}
 
 -- what a line says
 pub data Entry : Type 0 where
@@ -53,8 +54,8 @@ unfoldable pub gap_said : Line → Result Entry CertKind
 gap_said line = do
   word ← word_after (codes "gap") line
   f ← fraction_of word
-  num ← limited (pos 0) (pos (2 ^ 40)) f.num
-  den ← limited (pos 1) (pos (2 ^ 20)) f.den
+  num ← limited kinds.Range (pos 0) (pos (2 ^ 40)) f.num
+  den ← limited kinds.Range (pos 1) (pos (2 ^ 20)) f.den
   Ok (Gap (record { num = num; den = den }))
 
 -- a bound has a positive denominator
@@ -112,13 +113,13 @@ node_said number lacking line = do
 unfoldable pub vector_said : Limits → Line → Result Entry CertKind
 vector_said limits line = do
   ns ← numbers_after (codes "vector") limits.states line
-  _ ← each_within (neg_ℤ limits.span) limits.span ns
+  _ ← each_within kinds.Range (neg_ℤ limits.span) limits.span ns
   Ok (Vector ns)
 
 unfoldable pub mix_said : Limits → Line → Result Entry CertKind
 mix_said limits line = do
   ns ← numbers_after (codes "mix") limits.own_actions line
-  _ ← each_within (pos 0) (pos mix_total) ns
+  _ ← each_within kinds.Range (pos 0) (pos mix_total) ns
   _ ← sums_to_mix ns
   Ok (Mix ns)
 
@@ -126,10 +127,10 @@ mix_said limits line = do
 unfoldable pub branch_said : List ℕ → ℤ → ℕ → Place → Line → Result Branch CertKind
 branch_said name most members place line = do
   ns ← numbers_after name 4 line
-  own ← below_limit place.limits.own_actions (number_at ns 0)
-  seen ← below_limit place.limits.observations (number_at ns 1)
+  own ← below_limit kinds.Range place.limits.own_actions (number_at ns 0)
+  seen ← below_limit kinds.Range place.limits.observations (number_at ns 1)
   k ← at_least (pos 0) (number_at ns 2)
-  weight ← limited (pos 1) most (number_at ns 3)
+  weight ← limited kinds.Range (pos 1) most (number_at ns 3)
   _ ← later_branch place.latest own seen k
   member ← member_below members k
   Ok (record { own = own; seen = seen; member = member; weight = weight })
@@ -159,13 +160,13 @@ point_said number lacking line = do
 unfoldable pub belief_said : Limits → Line → Result Entry CertKind
 belief_said limits line = do
   ns ← numbers_after (codes "belief") limits.states line
-  _ ← each_within (pos 0) (pos most_belief) ns
+  _ ← each_within kinds.Range (pos 0) (pos most_belief) ns
   _ ← belief_total ns
   Ok (Belief ns)
 
 -- a value within the span times the belief's total
 unfoldable pub value_within : ℤ → ℤ → ℤ → Result ℤ CertKind
-value_within span total value = limited (neg_ℤ (span *ℤ total)) (span *ℤ total) value
+value_within span total value = limited kinds.Range (neg_ℤ (span *ℤ total)) (span *ℤ total) value
 
 unfoldable pub value_said : Limits → ℤ → Line → Result Entry CertKind
 value_said limits total line = do
@@ -177,7 +178,7 @@ value_said limits total line = do
 unfoldable pub mixes_said : Limits → ℕ → Line → Result Entry CertKind
 mixes_said limits state line = do
   ns ← numbers_after (codes "mix") (limits.informed_actions + 1) line
-  _ ← each_within (pos 0) (pos mix_total) (drop 1 ns)
+  _ ← each_within kinds.Range (pos 0) (pos mix_total) (drop 1 ns)
   _ ← is_due state (number_at ns 0)
   _ ← sums_to_mix (drop 1 ns)
   Ok (Mixes state (drop 1 ns))

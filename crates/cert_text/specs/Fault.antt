@@ -1,4 +1,6 @@
 use Rattle.std.specs.Prelude.{◌≡◌, ℕ, Result, Ok, Err}
+use Rattle.text_words.specs.declared.forms.NumbersFault.{NumbersFault}
+use Rattle.text_words.specs.declared.forms.NumbersFault.TheVariants as numbers
 use Rattle.cert_text.specs.declared.fault.CertKind.{CertKind}
 use Rattle.cert_text.specs.declared.fault.CertKind.TheVariants.{Version, Shape, Number, Range, Order, Index, Total, Trailing, Full, Missing}
 use Rattle.cert_text.specs.declared.fault.LineFault.{LineFault}
@@ -17,6 +19,12 @@ number_of_kind Total = 7
 number_of_kind Trailing = 8
 number_of_kind Full = 9
 number_of_kind Missing = 10
+
+-- the fault of a line that gives no numbers
+abbrev pub of_numbers : NumbersFault → LineFault
+of_numbers numbers.Shape = line.Refused Shape
+of_numbers numbers.Number = line.Refused Number
+of_numbers numbers.OutOfMemory = line.OutOfMemory
 
 -- the fault of a line of this number
 abbrev pub at_line : LineFault → ℕ → CertFault

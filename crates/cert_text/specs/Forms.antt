@@ -1,28 +1,19 @@
 -- What the words and numbers of one line say, or the least kind of fault.
-use Rattle.std.specs.Prelude.{ℕ, zero, suc, ◌%◌, ◌==◌, nat_lt, ◌&&◌, ◌||◌, Bool, false, List, [], ◌∷◌, length, Result, Ok, Err, ℤ, pos, int_lt, int_le, unsigned_abs, if◌then◌else◌, slice_index_or, codes}
+use Rattle.std.specs.Prelude.{ℕ, zero, suc, ◌%◌, ◌==◌, nat_lt, ◌&&◌, ◌||◌, Bool, false, List, [], ◌∷◌, Result, Ok, Err, ℤ, pos, int_lt, int_le, unsigned_abs, if◌then◌else◌, codes}
 use Rattle.std.specs.List.{list_all, slice_split}
 use Rattle.std.specs.Option.{ok_or}
 use Rattle.std.specs.Str.{bytes_eq}
 use Rattle.scaled_num.specs.Sums.{sum_of}
 use Rattle.text_words.specs.Lines.{Line, Word}
-use Rattle.text_words.specs.Numbers.{number_of, numbers_of}
+use Rattle.text_words.specs.Numbers.{number_of}
+use Rattle.text_words.specs.Forms.{◌>>=◌, is_within}
+use Rattle.text_words.specs.Forms as forms
 use Rattle.game_model.specs.Branches.{mix_total}
 use Rattle.controller.specs.Certificates.{Closed, Ending, FractionData, Full as FullRun, Trials, most_members}
 use Rattle.cert_text.specs.declared.fault.CertKind.{CertKind}
 use Rattle.cert_text.specs.declared.fault.CertKind.TheVariants as kinds
 use Rattle.cert_text.specs.declared.place.Latest.{Latest}
 use Rattle.cert_text.specs.declared.place.Latest.TheVariants as latest
-
-infixl 10 ◌>>=◌
-abbrev pub ◌>>=◌ : {A B : Type 0} → Result A CertKind → (A → Result B CertKind) → Result B CertKind
-(Ok x) >>= f = f x
-(Err e) >>= f = Err e
-
-abbrev pub number_at : List ℤ → ℕ → ℤ
-number_at numbers i = slice_index_or numbers i (pos 0)
-
-abbrev pub is_within : ℤ → ℤ → ℤ → Bool
-is_within low high number = int_le low number && int_le number high
 
 -- ---- the words of a line
 
@@ -37,15 +28,9 @@ are_words name second (first ∷ word ∷ more ∷ words) = false
 unfoldable pub version_line : Line → Result (Unit {0}) CertKind
 version_line line = if are_words (codes "certificate") (codes "1") line then Ok tt else Err kinds.Version
 
--- the numbers of words that are all number words
-unfoldable pub numbers_said : Line → Result (List ℤ) CertKind
-numbers_said words = ok_or (numbers_of words) kinds.Number
-
 -- the numbers of a line of this form: its first word, and how many numbers follow
-unfoldable pub numbers_after : List ℕ → ℕ → Line → Result (List ℤ) CertKind
-numbers_after name count [] = Err kinds.Shape
-numbers_after name count (word ∷ words) =
-    if bytes_eq word name && (length words == count) then numbers_said words else Err kinds.Shape
+abbrev pub numbers_after : Word → ℕ → Line → Result (List ℤ) CertKind
+numbers_after = forms.numbers_after kinds.Shape kinds.Number
 
 -- the one word after this first word
 unfoldable pub word_after : List ℕ → Line → Result Word CertKind
@@ -53,11 +38,6 @@ word_after name [] = Err kinds.Shape
 word_after name (first ∷ []) = Err kinds.Shape
 word_after name (first ∷ word ∷ []) = if bytes_eq first name then Ok word else Err kinds.Shape
 word_after name (first ∷ word ∷ more ∷ words) = Err kinds.Shape
-
--- the line begins with this word
-abbrev pub begins : List ℕ → Line → Bool
-begins name [] = false
-begins name (word ∷ words) = bytes_eq word name
 
 unfoldable pub outcome_of : Word → Result Ending CertKind
 outcome_of word =
@@ -81,17 +61,8 @@ fraction_of word = fraction_from (slice_split (λ b. b == 47) word)
 
 -- ---- the limits of numbers
 
-unfoldable pub limited : ℤ → ℤ → ℤ → Result ℤ CertKind
-limited low high number = if is_within low high number then Ok number else Err kinds.Range
-
-unfoldable pub below_limit : ℕ → ℤ → Result ℕ CertKind
-below_limit limit number = if int_le (pos 0) number && int_lt number (pos limit) then Ok (unsigned_abs number) else Err kinds.Range
-
 unfoldable pub at_least : ℤ → ℤ → Result ℤ CertKind
 at_least low number = if int_le low number then Ok number else Err kinds.Range
-
-unfoldable pub each_within : ℤ → ℤ → List ℤ → Result (Unit {0}) CertKind
-each_within low high numbers = if list_all (is_within low high) numbers then Ok tt else Err kinds.Range
 
 -- the number of the member or state that is due
 unfoldable pub is_due : ℕ → ℤ → Result (Unit {0}) CertKind

@@ -1,12 +1,12 @@
 -- A text as the list of what its lines say: which texts are accepted, and where the others are refused.
 use Rattle.std.specs.Prelude.{◌≡◌, ◌≢◌, ◌⊎◌, ℕ, ◌+◌, ◌<◌, List, [], ◌∷◌, ◌++◌, length, Result, Ok, Err, ⊤}
 use Rattle.text_words.specs.Lines.{Line, lines_of, after_lines}
+use Rattle.text_words.specs.Forms.{◌>>=◌}
 use Rattle.game_model.specs.Game.{GameData}
 use Rattle.cert_text.specs.declared.fault.CertKind.{CertKind}
 use Rattle.cert_text.specs.declared.fault.CertKind.TheVariants as kinds
 use Rattle.cert_text.specs.declared.place.Latest.TheVariants as latest
 use Rattle.cert_text.specs.declared.place.Place.{Place}
-use Rattle.cert_text.specs.Forms.{◌>>=◌}
 use Rattle.cert_text.specs.Entries.{Entry, entry_of, place_after, behind, start_of}
 
 -- from this place these lines say these entries

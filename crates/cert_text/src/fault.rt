@@ -1,9 +1,10 @@
 ghost use Rattle.std.specs.Prelude.{◌≡◌, Ok, Err, MatchResult};
 ghost use Rattle.cert_text.specs.declared.fault.LineFault.TheVariants.{OutOfMemory, Refused};
 ghost use Rattle.cert_text.specs.declared.fault.CertFault.TheVariants as certs;
-ghost use Rattle.cert_text.specs.Fault.{at_line, number_of_kind};
+ghost use Rattle.cert_text.specs.Fault.{at_line, number_of_kind, of_numbers};
 
 use std::alloc::{AllocError, AllocFailed};
+use text_words::NumbersFault;
 use thiserror::Error;
 
 /// What is wrong with a line. The least kind that applies is reported.
@@ -63,6 +64,18 @@ impl From<CertKind> for LineFault {
 
     fn from(kind: CertKind) -> Self {
         LineFault::Refused(kind)
+    }
+}
+
+impl From<NumbersFault> for LineFault {
+    ghost from_gives = { λ numbers fault. fault ≡ of_numbers numbers };
+
+    fn from(fault: NumbersFault) -> Self {
+        match fault {
+            NumbersFault::Shape => LineFault::Refused(CertKind::Shape),
+            NumbersFault::Number => LineFault::Refused(CertKind::Number),
+            NumbersFault::OutOfMemory => LineFault::OutOfMemory,
+        }
     }
 }
 

@@ -3,27 +3,13 @@ ghost use Rattle.std.specs.List.{slice_split};
 ghost use Rattle.cert_text.specs.Fault.{Gives, seen};
 ghost use Rattle.controller.specs.Data.{ending_of};
 ghost use Rattle.cert_text.specs.View.{fraction_is};
-ghost use Rattle.cert_text.specs.Forms.{are_words, begins, version_line, numbers_after, numbers_said, word_after, outcome_of, fraction_of, fraction_from};
+ghost use Rattle.cert_text.specs.Forms.{are_words, version_line, numbers_after, word_after, outcome_of, fraction_of, fraction_from};
 
 use crate::fault::{CertKind, LineFault};
 use controller::Outcome;
 use std::alloc::{AllocError, Global};
 
-/// The numbers of words that are all number words.
-fn numbers(alloc: Global, words: &[&[u8]]) -> Result<Vec<i128>, LineFault>
-    ensures gives { Gives (λ numbers. numbers.items) result (numbers_said (map (λ word. word.now) words.now)) }
-    ensures count { IfOk result (λ numbers. length numbers.items ≡ length words.now) }
-{
-    let mut numbers = Vec::new(alloc);
-    for word in words {
-        let number = text_words::number(word).ok_or(CertKind::Number)?;
-        numbers.push(number)?;
-    }
-    Ok(numbers)
-}
-
 /// The numbers of a line that has this first word and this many numbers.
-#[tactic(auto, unfolding(crate::specs::Forms::numbers_after))]
 pub fn numbers_after(
     alloc: Global,
     words: &[&[u8]],
@@ -33,10 +19,7 @@ pub fn numbers_after(
     ensures gives { Gives (λ numbers. numbers.items) result (numbers_after name.now count (map (λ word. word.now) words.now)) }
     ensures count { IfOk result (λ numbers. length numbers.items ≡ count) }
 {
-    match words {
-        [first, rest @ ..] if *first == name && rest.len() == count => numbers(alloc, rest),
-        _ => Err(CertKind::Shape.into()),
-    }
+    Ok(text_words::numbers_after(alloc, words, name, count)?)
 }
 
 /// The one word after this first word.
@@ -47,16 +30,6 @@ pub fn word_after<'a>(words: &[&'a [u8]], name: &[u8]) -> Result<&'a [u8], CertK
     match words {
         [first, word] if *first == name => Ok(*word),
         _ => Err(CertKind::Shape),
-    }
-}
-
-/// Whether the line begins with this word.
-pub fn begins(name: &[u8], words: &[&[u8]]) -> bool
-    ensures { result ≡ begins name.now (map (λ word. word.now) words.now) }
-{
-    match words {
-        [first, ..] => *first == name,
-        [] => false,
     }
 }
 

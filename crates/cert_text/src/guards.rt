@@ -1,45 +1,15 @@
 ghost use Rattle.std.specs.Prelude.{◌≡◌, ◌≤◌, ◌<◌, ◌^◌, length, drop, IfOk, OnOk, All, pos, ◌≤ℤ◌};
 ghost use Rattle.scaled_num.specs.Sums.{sum_of};
-ghost use Rattle.cert_text.specs.Forms.{is_within, limited, below_limit, at_least, each_within, is_due, member_below, few, is_after, later_branch, sums_to_mix, common_divisor, belief_total, none_lacks, fits_lack};
+ghost use Rattle.cert_text.specs.Forms.{at_least, is_due, member_below, few, is_after, later_branch, sums_to_mix, common_divisor, belief_total, none_lacks, fits_lack};
 
 use crate::fault::CertKind;
 use crate::place::Latest;
 use game_model::{MIX_TOTAL, MOST_BELIEF};
 use scaled_num::gcd;
+use text_words::is_within;
 
 /// The most nodes, and the most points.
 const MOST_MEMBERS: i128 = 1024;
-
-fn is_within(low: i128, high: i128, number: i128) -> bool
-    ensures { result ≡ is_within low high number }
-{
-    low <= number && number <= high
-}
-
-/// A number in its limits.
-#[tactic(auto, unfolding(crate::specs::Forms::limited))]
-pub fn limited(low: i128, high: i128, number: i128) -> Result<i128, CertKind>
-    ensures value { result ≡ limited low high number }
-    ensures least { IfOk result (λ n. low ≤ℤ n) }
-    ensures most { IfOk result (λ n. n ≤ℤ high) }
-{
-    if !is_within(low, high, number) {
-        return Err(CertKind::Range);
-    }
-    Ok(number)
-}
-
-/// A number below a limit.
-#[tactic(auto, unfolding(crate::specs::Forms::below_limit))]
-pub fn below_limit(limit: u32, number: i128) -> Result<u32, CertKind>
-    ensures value { result ≡ below_limit limit number }
-    ensures less { IfOk result (λ n. n < limit) }
-{
-    if number < 0 || number >= i128::from(limit) {
-        return Err(CertKind::Range);
-    }
-    Ok(number as u32)
-}
 
 /// A number with a least value.
 #[tactic(auto, unfolding(crate::specs::Forms::at_least))]
@@ -51,18 +21,6 @@ pub fn at_least(low: i128, number: i128) -> Result<i128, CertKind>
         return Err(CertKind::Range);
     }
     Ok(number)
-}
-
-/// Each number is in its limits.
-#[tactic(auto, unfolding(crate::specs::Forms::each_within))]
-pub fn each_within(low: i128, high: i128, numbers: &[i128]) -> Result<(), CertKind>
-    ensures kind { result ≡ each_within low high numbers.now }
-    ensures small { OnOk result (All (λ n. (low ≤ℤ n) × (n ≤ℤ high)) numbers.now) }
-{
-    if !numbers.iter().all(|number| is_within(low, high, *number)) {
-        return Err(CertKind::Range);
-    }
-    Ok(())
 }
 
 /// The number of the member or state that is due.

@@ -3,12 +3,13 @@ ghost use Rattle.cert_text.specs.Fault.{Gives};
 ghost use Rattle.cert_text.specs.View.{entry_in, fraction_is};
 ghost use Rattle.cert_text.specs.Entries.{version_said, outcome_said, gap_said, bound_said, lower_said, upper_said, tail_said, sizes_said, start_said, end_said};
 
-use crate::fault::LineFault;
+use crate::fault::{CertKind, LineFault};
 use crate::forms::{fraction_of, numbers_after, outcome_of, version, word_after};
-use crate::guards::{at_least, few, limited, member_below};
+use crate::guards::{at_least, few, member_below};
 use crate::place::Entry;
 use controller::{MOST_GAP, MOST_GAP_UNDER};
 use std::alloc::Global;
+use text_words::limited;
 
 #[tactic(auto, unfolding(crate::specs::Entries::version_said))]
 pub fn version_line(words: &[&[u8]]) -> Result<Entry, LineFault>
@@ -33,8 +34,8 @@ pub fn gap_line(alloc: Global, words: &[&[u8]]) -> Result<Entry, LineFault>
 {
     let word = word_after(words, b"gap")?;
     let (over, under) = fraction_of(alloc, word)?;
-    let num = limited(0, MOST_GAP, over)?;
-    let den = limited(1, MOST_GAP_UNDER, under)?;
+    let num = limited(CertKind::Range, 0, MOST_GAP, over)?;
+    let den = limited(CertKind::Range, 1, MOST_GAP_UNDER, under)?;
     Ok(Entry::Gap(num, den))
 }
 

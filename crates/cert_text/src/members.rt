@@ -8,13 +8,13 @@ ghost use Rattle.cert_text.specs.Entries.{node_said, vector_said, mix_said, bran
 use crate::fault::{CertKind, LineFault};
 use crate::forms::numbers_after;
 use crate::guards::{
-    at_least, belief_total, below_limit, each_within, fits_lack, is_due, later_branch, limited,
-    member_below, none_lacks, sums_to_mix,
+    at_least, belief_total, fits_lack, is_due, later_branch, member_below, none_lacks, sums_to_mix,
 };
 use crate::place::{Branch, Entry, Limits, Place};
 use game_model::{MIX_TOTAL, MOST_BELIEF};
 use point_set::MOST_SHARE;
 use std::alloc::Global;
+use text_words::{below_limit, each_within, limited};
 
 /// The node of this number, where no place of the node before lacks anything.
 #[tactic(auto, unfolding(crate::specs::Entries::node_said))]
@@ -38,7 +38,7 @@ pub fn vector_line(alloc: Global, limits: &Limits, words: &[&[u8]]) -> Result<En
     ensures { Gives entry_in result (vector_said limits.now (map (λ word. word.now) words.now)) }
 {
     let entries = numbers_after(alloc, words, b"vector", limits.states as usize)?;
-    each_within(-limits.span, limits.span, &entries)?;
+    each_within(CertKind::Range, -limits.span, limits.span, &entries)?;
     Ok(Entry::Vector(entries))
 }
 
@@ -48,7 +48,7 @@ pub fn mix_line(alloc: Global, limits: &Limits, words: &[&[u8]]) -> Result<Entry
     ensures { Gives entry_in result (mix_said limits.now (map (λ word. word.now) words.now)) }
 {
     let weights = numbers_after(alloc, words, b"mix", limits.own_actions as usize)?;
-    each_within(0, MIX_TOTAL, &weights)?;
+    each_within(CertKind::Range, 0, MIX_TOTAL, &weights)?;
     sums_to_mix(&weights)?;
     Ok(Entry::Mix(weights))
 }
@@ -68,10 +68,10 @@ fn branch(
     ensures seen { IfOk result (λ b. b.seen < place.now.limits.observations) }
 {
     let numbers = numbers_after(alloc, words, name, 4)?;
-    let own = below_limit(place.limits.own_actions, numbers[0])?;
-    let seen = below_limit(place.limits.observations, numbers[1])?;
+    let own = below_limit(CertKind::Range, place.limits.own_actions, numbers[0])?;
+    let seen = below_limit(CertKind::Range, place.limits.observations, numbers[1])?;
     let number = at_least(0, numbers[2])?;
-    let weight = limited(1, most, numbers[3])?;
+    let weight = limited(CertKind::Range, 1, most, numbers[3])?;
     later_branch(place.latest, own, seen, number)?;
     let member = member_below(members, number)?;
     Ok(Branch {
@@ -117,7 +117,7 @@ pub fn belief_line(alloc: Global, limits: &Limits, words: &[&[u8]]) -> Result<En
     ensures { Gives entry_in result (belief_said limits.now (map (λ word. word.now) words.now)) }
 {
     let parts = numbers_after(alloc, words, b"belief", limits.states as usize)?;
-    each_within(0, MOST_BELIEF, &parts)?;
+    each_within(CertKind::Range, 0, MOST_BELIEF, &parts)?;
     belief_total(&parts)?;
     Ok(Entry::Belief(parts))
 }
@@ -145,7 +145,12 @@ fn value_within(place: &Place, value: i128) -> Result<i128, CertKind>
     requires { IsPlace place.now }
     ensures { result ≡ value_within place.now.limits.span place.now.total value }
 {
-    limited(least_value(place), most_value(place), value)
+    limited(
+        CertKind::Range,
+        least_value(place),
+        most_value(place),
+        value,
+    )
 }
 
 /// A value within the span times the belief's total.
@@ -172,7 +177,7 @@ pub fn mixes_line(
 {
     let numbers = numbers_after(alloc, words, b"mix", limits.informed_actions as usize + 1)?;
     let weights = &numbers[1..];
-    each_within(0, MIX_TOTAL, weights)?;
+    each_within(CertKind::Range, 0, MIX_TOTAL, weights)?;
     is_due(state, numbers[0])?;
     sums_to_mix(weights)?;
     Ok(Entry::Mixes(state, Vec::from_slice(alloc, weights)?))

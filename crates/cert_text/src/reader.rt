@@ -11,7 +11,6 @@ ghost use Rattle.cert_text.specs.Entries.{entry_of, in_node, in_point, in_mixes,
 
 use crate::draft::{Draft, blank, take};
 use crate::fault::{CertFault, CertKind, LineFault, numbered};
-use crate::forms::begins;
 use crate::guards::sum;
 use crate::head::{
     end_line, gap_line, lower_line, outcome_line, sizes_line, start_line, tail_line, upper_line,
@@ -23,6 +22,7 @@ use crate::members::{
 };
 use crate::place::{Entry, Latest, MOST_PLACES, Place};
 use std::alloc::Global;
+use text_words::begins;
 
 /// After a node's `mix` or `next` line: a `next` line, the next node, or the first point.
 #[tactic(auto, unfolding(crate::specs::Entries::in_node))]

@@ -1,7 +1,8 @@
 use Rattle.std.proofs.Common.{pos, refl, sym, ◌∙◌, rules, tests}
 use Rattle.std.proofs.lemmas.Iterator.{YieldsList-from_slice}
 use Rattle.std.proofs.lemmas.Iterator.Search.{all_from_yields_List}
-use Rattle.cert_text.specs.Forms.{is_within, none_lacks}
+use Rattle.text_words.specs.Forms.{is_within}
+use Rattle.cert_text.specs.Forms.{none_lacks}
 use Rattle.cert_text.proofs.guards.none_lacks.Goals as goal
 
 pub returns-then-not-all : goal.returns-then-not-all

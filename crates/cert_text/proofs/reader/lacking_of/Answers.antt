@@ -1,7 +1,8 @@
 use Rattle.std.proofs.Common.{◌/◌, pos, arith, refl, replicate}
 use Rattle.std.specs.Prelude.{slice_index_or}
+use Rattle.text_words.proofs.Limits.{each_small}
 use Rattle.cert_text.specs.Entries.{lacking_of}
-use Rattle.cert_text.proofs.Limits.{pointwise_below, each_small}
+use Rattle.cert_text.proofs.Below.{pointwise_below}
 use Rattle.cert_text.proofs.reader.lacking_of.Goals as goal
 
 pub returns-clause-value : goal.returns-clause-value

@@ -1,6 +1,6 @@
 use Rattle.std.proofs.Common.{pos, refl, arith, replicate}
 use Rattle.std.proofs.lemmas.Int.{ints}
-use Rattle.cert_text.proofs.Limits.{each_small}
+use Rattle.text_words.proofs.Limits.{each_small}
 use Rattle.cert_text.proofs.texts.start.Goals as goal
 
 pub returns-clause-kept : goal.returns-clause-kept
