@@ -9,7 +9,6 @@ use Rattle.std.proofs.lemmas.Nat.Gcd.{IsGcd-from_zero, IsGcd-from_mod, dvd_trans
 use Rattle.std.proofs.Math.Nat.{mod-lt, eq-one_of_dvd-one}
 use Rattle.std.proofs.lemmas.List.{take_all}
 use Rattle.game_model.specs.Game.{AreCoprime}
-use Rattle.scaled_num.proofs.Divisors.{DivisorSoFar}
 use Rattle.cert_text.specs.Forms.{divisor_within, common_divisor}
 
 within_by : (steps a b : ℕ) → b ≤ suc steps → (e : Bool) → eqb b 0 ≡ e → ((c d : ℕ) → d ≤ steps → IsGcd c d (divisor_within steps c d)) → IsGcd a b (divisor_within (suc steps) a b)
@@ -46,11 +45,6 @@ common_is (n ∷ numbers) =
 
 pub greatest_same : (numbers : List ℤ) (g h : ℕ) → IsGreatest numbers g → IsGreatest numbers h → g ≡ h
 greatest_same numbers g h p q = dvd_antisymm (q.most g p.divides) (p.most h q.divides)
-
-pub so_far_all : (numbers : List ℤ) (i g : ℕ) → length numbers ≤ i → DivisorSoFar numbers i g → IsGreatest numbers g
-so_far_all numbers i g le h =
-    let e = take_all i numbers le in
-    record { divides = subst (Divides g) e h.divides; most = λ d all. h.greatest d (subst (Divides d) (sym e) all) }
 
 pub coprime_from : (numbers : List ℤ) → common_divisor numbers ≡ 1 → AreCoprime numbers
 coprime_from numbers e d all = eq-one_of_dvd-one (subst (λ (x : ℕ). d ∣ x) e ((common_is numbers).most d all))

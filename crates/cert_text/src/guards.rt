@@ -1,11 +1,10 @@
-ghost use Rattle.std.specs.Prelude.{◌≡◌, ◌≤◌, ◌<◌, ◌^◌, length, drop, IfOk, OnOk, All, pos, ◌≤ℤ◌};
-ghost use Rattle.scaled_num.specs.Sums.{sum_of};
+ghost use Rattle.std.specs.Prelude.{◌≡◌, ◌==◌, ◌≤◌, ◌<◌, ◌^◌, length, drop, IfOk, OnOk, All, pos, ◌≤ℤ◌};
 ghost use Rattle.cert_text.specs.Forms.{at_least, is_due, member_below, few, is_after, later_branch, sums_to_mix, common_divisor, belief_total, none_lacks, fits_lack};
 
 use crate::fault::CertKind;
 use crate::place::Latest;
 use game_model::{MIX_TOTAL, MOST_BELIEF};
-use scaled_num::gcd;
+use scaled_num::{common_divisor, sum};
 use text_words::is_within;
 
 /// The most nodes, and the most points.
@@ -78,19 +77,6 @@ pub fn later_branch(latest: Latest, own: u32, seen: u32, member: i128) -> Result
     }
 }
 
-/// The sum of small numbers.
-pub fn sum(numbers: &[i128]) -> i128
-    requires few { length numbers.now ≤ 16 }
-    requires small { All (λ n. (pos 0 ≤ℤ n) × (n ≤ℤ pos 1048576)) numbers.now }
-    ensures { result ≡ sum_of numbers.now }
-{
-    let mut sum = 0;
-    for number in numbers {
-        sum += *number;
-    }
-    sum
-}
-
 /// The weights of a mix sum to the mix total.
 #[tactic(auto, unfolding(crate::specs::Forms::sums_to_mix))]
 pub fn sums_to_mix(weights: &[i128]) -> Result<(), CertKind>
@@ -104,15 +90,11 @@ pub fn sums_to_mix(weights: &[i128]) -> Result<(), CertKind>
     Ok(())
 }
 
-/// The greatest common divisor of numbers.
-fn common_divisor(numbers: &[i128]) -> u128
-    ensures { result ≡ common_divisor numbers.now }
+/// Whether nothing but 1 divides all numbers.
+fn are_coprime(numbers: &[i128]) -> bool
+    ensures { result ≡ (common_divisor numbers.now == 1) }
 {
-    let mut divisor = 0;
-    for number in numbers {
-        divisor = gcd(divisor, number.unsigned_abs());
-    }
-    divisor
+    common_divisor(numbers) == 1
 }
 
 /// The parts of a belief have a total in its limits and are coprime.
@@ -122,7 +104,7 @@ pub fn belief_total(parts: &[i128]) -> Result<(), CertKind>
     requires small { All (λ n. (pos 0 ≤ℤ n) × (n ≤ℤ pos 1048576)) parts.now }
     ensures { result ≡ belief_total parts.now }
 {
-    if !is_within(1, MOST_BELIEF, sum(parts)) || common_divisor(parts) != 1 {
+    if !is_within(1, MOST_BELIEF, sum(parts)) || !are_coprime(parts) {
         return Err(CertKind::Total);
     }
     Ok(())

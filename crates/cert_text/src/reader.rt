@@ -11,7 +11,6 @@ ghost use Rattle.cert_text.specs.Entries.{entry_of, in_node, in_point, in_mixes,
 
 use crate::draft::{Draft, blank, take};
 use crate::fault::{CertFault, CertKind, LineFault, numbered};
-use crate::guards::sum;
 use crate::head::{
     end_line, gap_line, lower_line, outcome_line, sizes_line, start_line, tail_line, upper_line,
     version_line,
@@ -21,6 +20,7 @@ use crate::members::{
     vector_line,
 };
 use crate::place::{Entry, Latest, MOST_PLACES, Place};
+use scaled_num::sum;
 use std::alloc::Global;
 use text_words::begins;
 
