@@ -1,8 +1,8 @@
-use Rattle.std.proofs.Common.{max, arith, ◌≡◌}
+use Rattle.std.proofs.Common.{max, arith, rules, ◌≡◌}
 use Rattle.std.specs.Prelude.{pos, unsigned_abs, ℤ, FitsSigned}
 use Rattle.std.specs.Int.{w128}
 use Rattle.std.proofs.lemmas.Int.{ints, to_z-of_z}
-use Rattle.game_model.proofs.Width.{width-fits, greater_small, at_most}
+use Rattle.game_model.proofs.Width.{width-fits, greater_small}
 use Rattle.game_model.proofs.limits.is_narrow.Goals as goal
 
 pub overflow_mul-result-2 : goal.overflow_mul-result-2
@@ -44,4 +44,4 @@ returns c =
     let two = w.two in
     let three = w.three in
     let four = w.four in
-    simp (is, to_z-of_z) (at_most _ _)
+    simp (is, to_z-of_z) (search rules)

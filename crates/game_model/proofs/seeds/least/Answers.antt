@@ -19,8 +19,10 @@ returns-clause-floor c =
     let q_fits : FitsSigned w128 q = search rules in
     let w_fits : FitsSigned w128 w = search rules in
     let b : ℤ = g.shape.row_total *ℤ g.shape.discount.1 in
-    let low : (q *ℤ b) ≤ℤ w = simp (c.row_total.ensures, c.discount-under.ensures, to_z-of_z) at c.floor_div.ensures.low in
-    let high : w <ℤ (q *ℤ b +ℤ b) = simp (c.row_total.ensures, c.discount-under.ensures, to_z-of_z) at c.floor_div.ensures.high in
+    let below = simp (c.row_total.ensures, c.discount-under.ensures, to_z-of_z) at c.floor_div.ensures.low in
+    let low : (q *ℤ b) ≤ℤ w = search rules in
+    let above = simp (c.row_total.ensures, c.discount-under.ensures, to_z-of_z) at c.floor_div.ensures.high in
+    let high : w <ℤ (q *ℤ b +ℤ b) = search rules in
     simp to_z-of_z (floor-least g c.args.a c.args.s _ w q c.least_worth-worth.ensures.least
     (subst (λ (z : ℤ). (q *ℤ z) ≤ℤ w) (divisor-is g c.law_game.ensures.accepted) low)
     (subst (λ (z : ℤ). w <ℤ (q *ℤ z +ℤ z)) (divisor-is g c.law_game.ensures.accepted) high))
@@ -38,8 +40,10 @@ returns-clause-bounded c =
     let w_fits : FitsSigned w128 w = search rules in
     let b : ℤ = g.shape.row_total *ℤ g.shape.discount.1 in
     let n : ℕ = unsigned_abs g.shape.row_total * unsigned_abs g.shape.discount.1 in
-    let low : (q *ℤ b) ≤ℤ w = simp (c.row_total.ensures, c.discount-under.ensures, to_z-of_z) at c.floor_div.ensures.low in
-    let high : w <ℤ (q *ℤ b +ℤ b) = simp (c.row_total.ensures, c.discount-under.ensures, to_z-of_z) at c.floor_div.ensures.high in
+    let below = simp (c.row_total.ensures, c.discount-under.ensures, to_z-of_z) at c.floor_div.ensures.low in
+    let low : (q *ℤ b) ≤ℤ w = search rules in
+    let above = simp (c.row_total.ensures, c.discount-under.ensures, to_z-of_z) at c.floor_div.ensures.high in
+    let high : w <ℤ (q *ℤ b +ℤ b) = search rules in
     let size : unsigned_abs w ≤ span g * n = omega (arith, c.least_worth-worth.ensures.bounded) in
     simp to_z-of_z (quotient-within (span g) n w q size
     (subst (λ (z : ℤ). (q *ℤ z) ≤ℤ w) (divisor-is g c.law_game.ensures.accepted) low)

@@ -24,8 +24,9 @@ loop-c-preserved c =
     let y_fits : FitsSigned w128 y = search rules in
     let m_fits : FitsSigned w128 c.min-least.result = search rules in
     let is : c.min-least.result ≡ int_min x y = simp (to_z-of_z, c.loop-c.least-is) at c.min-least.ensures.value in
+    let exact : y ≡ f c.loop-c.c = search rules in
     simp to_z-of_z (record {
-      least = subst (IsLeastOf f (c.loop-c.c + 1)) (sym is) (least-more f c.loop-c.c x y (subst (IsLeastOf f c.loop-c.c) c.loop-c.least-is c.loop-c.invariant.least) c.stage_worth.ensures.exact);
+      least = subst (IsLeastOf f (c.loop-c.c + 1)) (sym is) (least-more f c.loop-c.c x y (subst (IsLeastOf f c.loop-c.c) c.loop-c.least-is c.loop-c.invariant.least) exact);
       bounded = subst (IsWorthWithin g) (sym is)
           (min-within x y (span g * unsigned_abs g.shape.row_total * unsigned_abs g.shape.discount.1) (subst (IsWorthWithin g) c.loop-c.least-is c.loop-c.invariant.bounded) c.stage_worth.ensures.bounded);
     })

@@ -25,4 +25,4 @@ returns c =
     let answer : (IsTrue (le_z (filled +ℤ weight) most) → HasWeightLeft c.args.self.now weight) × (HasWeightLeft c.args.self.now weight → IsTrue (le_z (filled +ℤ weight) most)) =
     subst (λ (g : GameData). (IsTrue (le_z (filled +ℤ weight) most) → HasWeightLeft g weight) × (HasWeightLeft g weight → IsTrue (le_z (filled +ℤ weight) most))) c.self.view_is
     (subst (λ (z : ℤ). (IsTrue (le_z (filled +ℤ weight) most) → (z +ℤ weight) ≤ℤ most) × ((z +ℤ weight) ≤ℤ most → IsTrue (le_z (filled +ℤ weight) most))) c.self.invariant.sum (at_most (filled +ℤ weight) most)) in
-    simp to_z-of_z answer
+    simp to_z-of_z (search rules)
