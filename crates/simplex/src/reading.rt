@@ -1,6 +1,6 @@
 //! Places in a list, and fractions in lowest terms.
 
-ghost use Rattle.std.specs.Prelude.{◌≡◌, ◌≢◌, ℕ, ◌<◌, ◌^◌, pos, ◌*ℤ◌, ◌<ℤ◌, length, slice_index, IfNone, IfSome, unsigned_abs};
+ghost use Rattle.std.specs.Prelude.{◌≡◌, ◌≢◌, ℕ, ◌<◌, pos, ◌*ℤ◌, ◌<ℤ◌, length, slice_index, IfNone, IfSome};
 ghost use Rattle.simplex.specs.Program.{IsNarrow};
 ghost use Rattle.simplex.specs.Reading.{IsLowest};
 
