@@ -1,6 +1,6 @@
 //! Places in a list, and fractions in lowest terms.
 
-ghost use Rattle.std.specs.Prelude.{◌≡◌, ◌≢◌, ℕ, ◌<◌, ◌^◌, pos, ◌*ℤ◌, ◌<ℤ◌, length, slice_index, IfNone, IfSome, unsigned_abs};
+ghost use Rattle.std.specs.Prelude.{◌≡◌, ◌≢◌, ℕ, ◌<◌, pos, ◌*ℤ◌, ◌<ℤ◌, length, slice_index, IfNone, IfSome};
 ghost use Rattle.simplex.specs.Program.{IsNarrow};
 ghost use Rattle.simplex.specs.Reading.{IsLowest};
 
@@ -11,6 +11,7 @@ pub fn place_of(list: &[u32], number: u32) -> Option<usize>
     ensures none { IfNone result ((k : ℕ) → k < length list.now → slice_index list.now k ≢ number) }
     ensures inside { IfSome result (λ place. place < length list.now) }
     ensures there { IfSome result (λ place. slice_index list.now place ≡ number) }
+    ensures first { IfSome result (λ place. (k : ℕ) → k < place → slice_index list.now k ≢ number) }
 {
     for place in 0..list.len() {
         if list[place] == number {

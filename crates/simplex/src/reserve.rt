@@ -1,6 +1,6 @@
 //! Vectors that keep their memory while their lengths change.
 
-ghost use Rattle.std.specs.Prelude.{◌≡◌, ℕ, ◌+◌, ◌-◌, ◌<◌, ◌≤◌, ◌^◌, length, vec_capacity, IfOk, [], ◌++◌};
+ghost use Rattle.std.specs.Prelude.{◌≡◌, ℕ, ◌+◌, ◌-◌, ◌<◌, ◌≤◌, length, vec_capacity, IfOk};
 ghost use Rattle.simplex.specs.Tableau.{RowsHold, list_at};
 
 use std::alloc::{AllocError, Global};

@@ -1,6 +1,5 @@
-ghost use Rattle.std.specs.Prelude.{◌≡◌, ℕ, pos, ◌+◌, ◌<◌, ◌≤◌, ◌^◌, ◌≤ℤ◌, IsTrue, length, IsSome, IfSome};
-ghost use Rattle.simplex.specs.Program.{at, AllNarrow, IsProgram, row_count, variable_count};
-ghost use Rattle.simplex.specs.Solver.{HasRoomFor};
+ghost use Rattle.std.specs.Prelude.{◌≡◌, ℕ, pos, ◌<◌, ◌≤◌, ◌^◌, ◌≤ℤ◌, IsTrue, length, IsSome, IfSome};
+ghost use Rattle.simplex.specs.Program.{at, AllNarrow, IsProgram};
 ghost use Rattle.simplex.specs.Tableau.{list_at};
 
 use crate::{End, Program, Solver};
