@@ -1,4 +1,4 @@
-ghost use Rattle.std.specs.Prelude.{◌≡◌, ◌≤◌, ◌<◌, ◌^◌, ◌==◌, length, map, IfOk, OnOk, All, pos, ◌≤ℤ◌};
+ghost use Rattle.std.specs.Prelude.{◌≡◌, ◌==◌, length, map, IfOk};
 ghost use Rattle.std.specs.List.{slice_split};
 ghost use Rattle.cert_text.specs.Fault.{Gives, seen};
 ghost use Rattle.controller.specs.Data.{ending_of};
