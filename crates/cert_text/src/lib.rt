@@ -9,12 +9,8 @@ mod head;
 mod laws;
 mod members;
 mod place;
-#[cfg(test)]
-mod print_tests;
 mod printing;
 mod reader;
-#[cfg(test)]
-mod tests;
 mod texts;
 
 pub use fault::{CertFault, CertKind};

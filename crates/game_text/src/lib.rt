@@ -9,8 +9,6 @@ mod header;
 mod laws;
 mod place;
 mod rows;
-#[cfg(test)]
-mod tests;
 mod texts;
 
 pub use fault::{Kind, TextFault};

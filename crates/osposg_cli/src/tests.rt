@@ -124,6 +124,7 @@ fn refused_games_name_the_first_line_and_its_least_kind(rt: HostRuntime) -> Resu
     let refused = [
         (1, "osposg 3", "game refused: line 1 kind 1\n"),
         (2, "size 1 1 1", "game refused: line 2 kind 2\n"),
+        (2, "size 17 1 1 1", "game refused: line 2 kind 4\n"),
         (3, "total 1x", "game refused: line 3 kind 3\n"),
         (3, "total 01", "game refused: line 3 kind 3\n"),
         (3, "total 0", "game refused: line 3 kind 4\n"),
@@ -149,9 +150,12 @@ fn refused_games_of_other_lengths_and_widths(rt: HostRuntime) -> Result<(), Fail
     let whole = text_of(alloc, &FIVE_EACH_TIME)?;
     let twice = text_of(alloc, &[whole.as_str(), whole.as_str()])?;
     let cut = text_of(alloc, &FIVE_EACH_TIME[..7])?;
+    let unended =
+        "osposg 1\nsize 1 1 1 1\ntotal 1\ndiscount 0 1\nfirst 1\nstep 0 0 0 5\nout 0 0 1\nend";
     let refused = [
         ("", "game refused: line 1 kind 9\n"),
         (cut.as_str(), "game refused: line 8 kind 9\n"),
+        (unended, "game refused: line 8 kind 9\n"),
         (twice.as_str(), "game refused: line 9 kind 10\n"),
         (
             "osposg 1\nsize 1 1 1 1\ntotal 2\ndiscount 0 1\nfirst 1\nstep 0 0 0 5\nout 0 0 1\nout 0 0 1\nend\n",
@@ -239,13 +243,31 @@ fn changed_certificates_are_refused_or_fail_first(rt: HostRuntime) -> Result<(),
     let game = text_of(alloc, &THREE_HALVED)?;
     let answers = [
         (
+            1,
+            "certificate 2",
+            Status::CertRefused,
+            "certificate refused: line 1 kind 1\n",
+        ),
+        (
             2,
             "outcome open",
             Status::CertRefused,
             "certificate refused: line 2 kind 2\n",
         ),
         (2, "outcome trials", Status::No, "no outcome\n"),
+        (
+            3,
+            "gap 0/01",
+            Status::CertRefused,
+            "certificate refused: line 3 kind 3\n",
+        ),
         (4, "lower 393215/65536", Status::No, "no bound\n"),
+        (
+            7,
+            "sizes 0 2000",
+            Status::CertRefused,
+            "certificate refused: line 7 kind 4\n",
+        ),
         (
             7,
             "sizes 1025 1",
@@ -363,5 +385,32 @@ fn a_full_set_of_nodes_stands(rt: HostRuntime) -> Result<(), Fail> {
     }
     input.push_str(&text_of(alloc, &THREE_CERTIFICATE[12..])?)?;
     assert!(rt; answered(alloc, &["check"], input.as_bytes(), THREE_YES)? == (Status::Done, true));
+    Ok(())
+}
+
+#[test]
+fn a_text_in_front_ends_behind_its_end_line_and_a_belief_is_divided(
+    rt: HostRuntime,
+) -> Result<(), Fail> {
+    let alloc = rt.alloc();
+    let text =
+        "osposg 1\nsize 2 1 1 1\ntotal 1\ndiscount 0 1\nfirst 6 3\nstep 0 0 0 1\nout 0 0 1\nstep 1 0 0 -1\nout 0 1 1\nend\n";
+    let input = joined(alloc, text, "certificate 1")?;
+    assert!(rt; input.len() < 1000);
+    let (game, place) = game_text::read(alloc, input.as_bytes())?;
+    assert!(rt; place == text.len());
+    assert!(rt; game.first() == [2, 1].as_slice());
+    Ok(())
+}
+
+#[test]
+fn a_certificate_is_printed_as_the_text_that_it_was_read_from(rt: HostRuntime) -> Result<(), Fail> {
+    let alloc = rt.alloc();
+    let game = text_of(alloc, &THREE_HALVED)?;
+    let text = text_of(alloc, &THREE_CERTIFICATE)?;
+    assert!(rt; game.len() < 1000 && text.len() < 1000);
+    let game = game_text::read_alone(alloc, game.as_bytes())?;
+    let certificate = cert_text::read(alloc, &game, text.as_bytes())?;
+    assert!(rt; cert_text::print(alloc, &game, &certificate)?.as_slice() == text.as_bytes());
     Ok(())
 }
