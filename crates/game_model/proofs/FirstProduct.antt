@@ -1,14 +1,13 @@
 -- The running product of a belief's weights with a vector, and its size.
-use Rattle.std.proofs.Common.{◌≡◌, ℕ, ◌+◌, ◌*◌, ◌^◌, ◌<◌, ◌≤◌, List, [], ◌∷◌, length, ap, arith, sym, ◌∙◌, subst, map}
-use Rattle.std.specs.Prelude.{ℤ, pos, ◌+ℤ◌, ◌*ℤ◌, ◌≤ℤ◌, unsigned_abs, slice_index_or, FitsSigned}
+use Rattle.std.proofs.Common.{◌≡◌, ℕ, ◌+◌, ◌*◌, ◌^◌, ◌<◌, ◌≤◌, List, length, ap, arith, sym, ◌∙◌, subst}
+use Rattle.std.specs.Prelude.{ℤ, pos, ◌+ℤ◌, ◌*ℤ◌, unsigned_abs, slice_index_or, FitsSigned}
 use Rattle.std.specs.List.{AllByRecursion}
 use Rattle.std.specs.Int.{w128}
 use Rattle.std.proofs.Math.Nat.{mul-le-mul}
 use Rattle.std.proofs.lemmas.Int.{ints, fits_signed_from_abs, unsigned_abs-mul}
-use Rattle.std.proofs.lemmas.List.FromFn.{map-range_with_len_more}
 use Rattle.scaled_num.specs.Sums.{below, total}
-use Rattle.scaled_num.proofs.Products.{sums, abs-add, magnitude-is}
-use Rattle.scaled_num.proofs.Sums.{each-at, total-append, total-below, total-map, total-below-more}
+use Rattle.scaled_num.proofs.Products.{abs-add, magnitude-is}
+use Rattle.scaled_num.proofs.Sums.{each-at, total-below, total-below-more}
 use Rattle.game_model.specs.Game.{GameData, IsGame, IsWithin, first_at, numbers}
 use Rattle.game_model.specs.Numbers.{product}
 

@@ -1,5 +1,5 @@
-use Rattle.std.proofs.Common.{◌≡◌, List, rules, sym, ap, ◌∙◌}
-use Rattle.std.specs.Prelude.{ℤ, FitsSigned}
+use Rattle.std.proofs.Common.{rules, sym, ◌∙◌}
+use Rattle.std.specs.Prelude.{FitsSigned}
 use Rattle.std.specs.Int.{w128}
 use Rattle.std.proofs.lemmas.Int.{to_z-of_z}
 use Rattle.game_model.specs.Game.{IsGame}
