@@ -10,6 +10,8 @@ use Rattle.scaled_num.specs.Sums.{below, total}
 use Rattle.scaled_num.proofs.Sums.{below-each, each-append}
 use Rattle.game_model.specs.Branches.{Branch, IsBranchBefore, AreRising, branches_at}
 use Rattle.cert_text.specs.Made.{at_last}
+use Rattle.text_words.proofs.Texts.{flat_below, each_more}
+use Rattle.text_words.proofs.Texts as texts
 
 -- the last member changed
 
@@ -22,29 +24,10 @@ pub length_more : {X : Type 0} (xs : List X) (x : X) → length (xs ++ x ∷ [])
 length_more [] x = refl
 length_more (y ∷ xs) x = omega (arith, length_more xs x)
 
-pub each_more : {X : Type 0} (P : X → Type 0) (xs : List X) (x : X) → AllByRecursion P xs → P x → AllByRecursion P (xs ++ x ∷ [])
-each_more P xs x h k = each-append P xs (x ∷ []) h (k, tt)
-
 -- texts in order
 
-range_push : (a n : ℕ) → range_with_len a (suc n) ≡ range_with_len a n ++ (a + n) ∷ []
-range_push a zero = let e : a ≡ a + 0 = omega arith in ap (λ (x : ℕ). x ∷ []) e
-range_push a (suc n) =
-    let e : a + 1 + n ≡ a + suc n = omega arith in
-    ap (λ (x : List ℕ). a ∷ x) (range_push (a + 1) n ∙ ap (λ (x : ℕ). range_with_len (a + 1) n ++ x ∷ []) e)
-
-pub below_push : (n : ℕ) → below (n + 1) ≡ below n ++ n ∷ []
-below_push n = let e : 0 + n ≡ n = omega arith in let f : n + 1 ≡ suc n = omega arith in ap below f ∙ range_push 0 n ∙ ap (λ (x : ℕ). below n ++ x ∷ []) e
-
-flat_same : (f g : ℕ → List ℕ) (xs : List ℕ) → AllByRecursion (λ x. f x ≡ g x) xs → flat_map f xs ≡ flat_map g xs
-flat_same f g [] h = refl
-flat_same f g (x ∷ xs) h = ap (λ (l : List ℕ). l ++ flat_map f xs) h.0 ∙ ap (λ (l : List ℕ). g x ++ l) (flat_same f g xs h.1)
-
-pub flat_below : (f g : ℕ → List ℕ) (n : ℕ) → ((i : ℕ) → i < n → f i ≡ g i) → flat_map f (below n) ≡ flat_map g (below n)
-flat_below f g n h = flat_same f g (below n) (below-each (λ i. f i ≡ g i) n h)
-
 pub flat_push : (f : ℕ → List ℕ) (n : ℕ) → flat_map f (below (n + 1)) ≡ flat_map f (below n) ++ f n
-flat_push f n = ap (flat_map f) (below_push n) ∙ flat_map-append f (below n) (n ∷ []) ∙ ap (λ (l : List ℕ). flat_map f (below n) ++ l) (append-nil (f n))
+flat_push f n = let e : n + 1 ≡ suc n = omega arith in ap (λ (k : ℕ). flat_map f (below k)) e ∙ texts.flat_push f n
 
 -- the texts of members by their numbers
 abbrev pub member_texts : {X : Type 0} → (ℕ → X → List ℕ) → X → List X → List ℕ
@@ -76,10 +59,6 @@ map_places d [] = refl
 map_places {X} d (x ∷ xs) = ap (λ (ys : List X). x ∷ ys) (map_shift (λ i. get_or (x ∷ xs) i d) 0 (length xs) ∙ map_places d xs)
 
 -- lists from behind
-
-pub each_reverse : {X : Type 0} (P : X → Type 0) (xs : List X) → AllByRecursion P xs → AllByRecursion P (reverse xs)
-each_reverse P [] h = tt
-each_reverse {X} P (x ∷ xs) h = rw (reverse-cons x xs) (each_more P (reverse xs) x (each_reverse P xs h.1) h.0)
 
 -- branches of which the latest stands first
 abbrev pub HeadBefore : List Branch → Branch → Type 0

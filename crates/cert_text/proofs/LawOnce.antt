@@ -8,6 +8,7 @@ use Rattle.cert_text.specs.declared.place.Latest.TheVariants as latest
 use Rattle.cert_text.specs.declared.place.Place.{Place}
 use Rattle.cert_text.specs.Entries.{Entry, entry_of, entry_after, place_after, behind, start_of}
 use Rattle.cert_text.specs.Reading.{line_at, Say, Reads, Refuses, Accepts, AcceptsCert, RefusesCert}
+use Rattle.text_words.proofs.Whole.{cons_is}
 
 -- no line can be said here
 abbrev Stops : Place → List Line → Type 0
@@ -41,9 +42,6 @@ same_done e f h = cc
 same_said : (place : Place) (line : Line) (e f : Entry) → entry_of place line ≡ Ok e → entry_of place line ≡ Ok f → e ≡ f
 unfolding done
 same_said place line e f p q = same_done e f (sym p ∙ q)
-
-cons_is : (a b : Line) (cs ds : List Line) → a ∷ cs ≡ b ∷ ds → (a ≡ b) × (cs ≡ ds)
-cons_is a b cs ds e = (cc, cc)
 
 abbrev Same : List Entry → List Line → List Entry → List Line → Type 0
 Same es rest fs more = (es ≡ fs) × (rest ≡ more)

@@ -23,8 +23,9 @@ use Rattle.cert_text.specs.Entries.{limits_of, place_at, lacking_of, lacking_les
 use Rattle.cert_text.specs.Text.{line_of, mix_text}
 use Rattle.cert_text.proofs.LawGuards.{IsLater, IsNone}
 use Rattle.cert_text.proofs.LawSaid.{MixFits}
-use Rattle.cert_text.proofs.LawLists.{HeadBefore, rising_reverse, each_reverse, weight_at, weight_hit, weight_miss, weight_reverse, at_none, flat_below, flat_push, map_below, map_places}
+use Rattle.cert_text.proofs.LawLists.{HeadBefore, rising_reverse, weight_at, weight_hit, weight_miss, weight_reverse, at_none, flat_push, map_below, map_places}
 use Rattle.cert_text.proofs.LawStages.{Head, Lacks, StepsFit, BranchesFit, RowsFit, PartFits, mixes_from, node_from, point_from, latest_step, latest_share, mixes_bytes}
+use Rattle.text_words.proofs.Texts.{flat_below, each_reverse}
 
 -- ---- places
 

@@ -17,9 +17,10 @@ use Rattle.cert_text.specs.Entries.{Entry, Version, Outcome, Gap, Lower, Upper, 
 use Rattle.cert_text.specs.Made.{at_last, new_point, with_entry}
 use Rattle.cert_text.proofs.LawGuards.{IsNone}
 use Rattle.cert_text.proofs.LawSaid.{words_in, Is, version-ok, outcome-ok, gap-ok, lower-ok, upper-ok, tail-ok, sizes-ok, start-ok, node-ok, vector-ok, mix-ok, belief-ok, value-ok, mixes-ok, InNode, in_node-ok, InPoint, in_point-ok, InMixes, in_mixes-ok, BranchFits, NextFits, MixFits, ValueFits}
-use Rattle.cert_text.proofs.LawLists.{at_last_is, length_more, each_more, texts_more}
+use Rattle.cert_text.proofs.LawLists.{at_last_is, length_more, texts_more}
 use Rattle.cert_text.proofs.LawParts.{lacks_first, lacks_more, step_after, share_after, branches_more, node_fits, rows_none, rows_more, mixes_text_more, point_fits}
 use Rattle.cert_text.proofs.LawStages.{Head, Stage, AtNothing, AtVersion, AtOutcome, AtGap, AtLower, AtUpper, AtTail, AtSizes, AtStart, AtNode, AtVector, AtSteps, AtPoint, AtBelief, AtMixes, AtSplits, AtEnd, placed, zeros, place_of, made_head, node_from, mixes_from, point_from, made_of, version_bytes, outcome_bytes, sizes_bytes, start_bytes, head_bytes, nodes_bytes, points_bytes, node_line, vector_line, point_line, belief_line, value_line, mixes_bytes, text_of, HeadFits, NodesFit, NodesDone, StepsFit, BranchesFit, PointsFit, PartFits, IsDone, Known}
+use Rattle.text_words.proofs.Texts.{each_more}
 
 -- behind this entry there is that stage
 pub record To (g : GameData) (s : Stage) (e : Entry) (t : Stage) : Type 0 where

@@ -13,7 +13,7 @@ use Rattle.std.proofs.lemmas.Bool.Decides.{nat_tests}
 use Rattle.text_words.specs.Lines.{Line, Word}
 use Rattle.text_words.specs.Numbers.{number_of}
 use Rattle.text_words.proofs.Printed.{number_of-printed, number_of-prints, signed_decimal-above}
-use Rattle.text_words.proofs.Whole.{IsWord}
+use Rattle.text_words.proofs.Whole.{Lacks, IsWord, split_at, split_none}
 use Rattle.text_words.proofs.Limits.{bind_ok, cond_ok, or_some, and_true}
 use Rattle.text_words.proofs.Numerals.{Small, bytes_same, bytes_is}
 use Rattle.controller.specs.Certificates.{Closed, Ending, FractionData, Full as FullRun, Trials}
@@ -104,17 +104,6 @@ fraction_of-ok word f h =
     let p = pieces_are (slice_split (λ b. b == 47) word) f h in
     (sym (join_with_byte-slice_split 47 word) ∙ p.0, p.1)
 
-abbrev Lacks : (ℕ → Bool) → List ℕ → Type 0
-Lacks p bytes = AllByRecursion (λ b. p b ≡ false) bytes
-
-split_at : (p : ℕ → Bool) (xs : List ℕ) (y : ℕ) (ys : List ℕ) → Lacks p xs → p y ≡ true → slice_split p (xs ++ y ∷ ys) ≡ xs ∷ slice_split p ys
-split_at p [] y ys none is = slice_split-cons_yes p y ys is
-split_at p (x ∷ xs) y ys none is = slice_split-cons_no p x (xs ++ y ∷ ys) none.0 ∙ ap (onto_first x) (split_at p xs y ys none.1 is)
-
-split_none : (p : ℕ → Bool) (xs : List ℕ) → Lacks p xs → slice_split p xs ≡ xs ∷ []
-split_none p [] none = refl
-split_none p (x ∷ xs) none = slice_split-cons_no p x xs none.0 ∙ ap (onto_first x) (split_none p xs none.1)
-
 digits_lack : (ds : List ℕ) → AllDigits 10 ds → Lacks (λ b. b == 47) ds
 digits_lack [] d = tt
 digits_lack (c ∷ cs) d = let k = digit_from_value c d.0 in (grind (arith, nat_tests, k), digits_lack cs d.1)
@@ -142,7 +131,3 @@ word_append (x ∷ xs) ys a b = (a.0, word_append xs ys a.1 b)
 
 pub fraction_written : (f : FractionData) → IsBrief f → IsWord (fraction_word f)
 fraction_written f brief = word_append (signed_decimal f.num) (47 ∷ signed_decimal f.den) (signed_decimal-above f.num brief.0) (omega arith, signed_decimal-above f.den brief.1)
-
-pub numbers_written : (numbers : List ℤ) → AllByRecursion Small numbers → AllByRecursion IsWord (map signed_decimal numbers)
-numbers_written [] small = tt
-numbers_written (z ∷ numbers) small = (signed_decimal-above z small.0, numbers_written numbers small.1)

@@ -10,13 +10,13 @@ use Rattle.game_model.specs.Branches.{Branch, IsBranch}
 use Rattle.game_model.specs.Game.{GameData, IsGame, IsWithin, numbers, span}
 use Rattle.game_model.proofs.Worth.{span-small}
 use Rattle.controller.specs.Certificates.{CertificateData, Closed, Ending, FractionData, Full as FullRun, Trials}
-use Rattle.text_words.proofs.Numerals.{Small, small_within, numbered}
+use Rattle.text_words.proofs.Numerals.{Small, small_within, numbered, numbers_written}
 use Rattle.cert_text.specs.declared.place.Place.{Place}
 use Rattle.cert_text.specs.declared.place.Latest.TheVariants as latest
 use Rattle.cert_text.specs.Entries.{Entry, Version, Outcome, entry_of, behind, limits_of}
 use Rattle.cert_text.specs.Made.{with_entries}
 use Rattle.cert_text.specs.Reading.{Say}
-use Rattle.cert_text.proofs.LawWords.{IsBrief, fraction_written, numbers_written}
+use Rattle.cert_text.proofs.LawWords.{IsBrief, fraction_written}
 use Rattle.cert_text.proofs.LawSaid.{words_in, fraction_words, branch_numbers, ValueFits}
 use Rattle.cert_text.proofs.LawStages.{Stage, place_of, made_of, Known}
 use Rattle.cert_text.proofs.LawSteps.{To}

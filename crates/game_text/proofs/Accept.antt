@@ -5,7 +5,7 @@ use Rattle.std.specs.Fmt.{signed_decimal}
 use Rattle.std.specs.List.{AllByRecursion}
 use Rattle.std.proofs.lemmas.List.{append_cancel_right, length-reverse}
 use Rattle.text_words.specs.Lines.{Line, lines_of, after_lines}
-use Rattle.text_words.proofs.Numerals.{Small, small_within}
+use Rattle.text_words.proofs.Numerals.{Small, small_within, numbers_written}
 use Rattle.text_words.proofs.Printed.{signed_decimal-above}
 use Rattle.text_words.proofs.Whole.{IsWord, IsWritten, lines_text, lines_of-front, lines_of-lines, after_lines-lines}
 use Rattle.game_model.specs.declared.parts.Shape.{Shape}
@@ -20,10 +20,11 @@ use Rattle.game_text.specs.Built.{rewards_in, onto_last, rows_in}
 use Rattle.game_text.proofs.Said.{words_in, name_in, numbers_in, small_discount, small_weights, small_weight}
 use Rattle.game_text.specs.Forms.{state_at, own_at, informed_at}
 use Rattle.game_text.proofs.Runs.{May, Run, outs, step_of, spelled, Good, say_run, run_say, shape_limits, open_before, open_row, shape_spelled}
-use Rattle.game_text.proofs.Spells.{Finished, finished, end_run, game_from, game_is, whole_back, game_again, rewards_back, rows_back, map_reverse, each_reverse}
+use Rattle.game_text.proofs.Spells.{Finished, finished, end_run, game_from, game_is, whole_back, game_again, rewards_back, rows_back, map_reverse}
 use Rattle.game_text.proofs.Bytes.{back_text, whole_bytes, lines_back}
 use Rattle.game_text.proofs.Coprime.{Parts, parts, scaled_once}
 use Rattle.game_text.proofs.OneReading.{accepted_once, not_both, refused_once}
+use Rattle.text_words.proofs.Texts.{each_reverse}
 
 -- from lines to a game
 
@@ -84,10 +85,6 @@ may_small before (Out l) run may =
     let f = may.1 in
     (omega (arith, f.seen, limits.observations), (omega (arith, f.to, limits.states), (small_weight (shape_in before) l.weight limits f.weight, tt)))
 may_small before End run may = tt
-
-numbers_written : (numbers : List ℤ) → AllByRecursion Small numbers → AllByRecursion IsWord (map signed_decimal numbers)
-numbers_written [] small = tt
-numbers_written (z ∷ numbers) small = (signed_decimal-above z small.0, numbers_written numbers small.1)
 
 name_written : (e : Entry) → IsWord (name_in e)
 name_written Version = (omega arith, (omega arith, (omega arith, (omega arith, (omega arith, (omega arith, tt))))))

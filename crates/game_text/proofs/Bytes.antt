@@ -19,6 +19,7 @@ use Rattle.game_text.specs.Entries.{Entry, Version, Size, Total, Discount, First
 use Rattle.game_text.proofs.Said.{words_in}
 use Rattle.game_text.proofs.Runs.{header, step_of, outs, spelled, Good}
 use Rattle.game_text.proofs.Spells.{game_from, same_length, length_map}
+use Rattle.text_words.proofs.Texts.{flat_below, flat_push}
 
 abbrev pub entry_text : Entry → List ℕ
 entry_text e = line_text (words_in e)
@@ -54,25 +55,6 @@ back_row shape k r row b =
     back_outs row (step_of shape k r ∷ b)
     ∙ ap (λ (x : List ℕ). x ++ flat_map landing_line (reverse row)) (back_more (step_of shape k r) b)
     ∙ append_assoc (back_text b) (step_line (state_at shape k) (own_at shape k) (informed_at shape k) r) (flat_map landing_line (reverse row))
-
-range_push : (a n : ℕ) → range_with_len a (suc n) ≡ range_with_len a n ++ (a + n) ∷ []
-range_push a zero = let e : a ≡ a + 0 = omega arith in ap (λ (x : ℕ). x ∷ []) e
-range_push a (suc n) =
-    let e : a + 1 + n ≡ a + suc n = omega arith in
-    ap (λ (x : List ℕ). a ∷ x) (range_push (a + 1) n ∙ ap (λ (x : ℕ). range_with_len (a + 1) n ++ x ∷ []) e)
-
-below_push : (n : ℕ) → below (suc n) ≡ below n ++ n ∷ []
-below_push n = let e : 0 + n ≡ n = omega arith in range_push 0 n ∙ ap (λ (x : ℕ). below n ++ x ∷ []) e
-
-flat_same : (f g : ℕ → List ℕ) (xs : List ℕ) → AllByRecursion (λ x. f x ≡ g x) xs → flat_map f xs ≡ flat_map g xs
-flat_same f g [] h = refl
-flat_same f g (x ∷ xs) h = ap (λ (l : List ℕ). l ++ flat_map f xs) h.0 ∙ ap (λ (l : List ℕ). g x ++ l) (flat_same f g xs h.1)
-
-flat_below : (f g : ℕ → List ℕ) (n : ℕ) → ((i : ℕ) → i < n → f i ≡ g i) → flat_map f (below n) ≡ flat_map g (below n)
-flat_below f g n h = flat_same f g (below n) (below-each (λ i. f i ≡ g i) n h)
-
-flat_push : (f : ℕ → List ℕ) (n : ℕ) → flat_map f (below (suc n)) ≡ flat_map f (below n) ++ f n
-flat_push f n = ap (flat_map f) (below_push n) ∙ flat_map-append f (below n) (n ∷ []) ∙ ap (λ (l : List ℕ). flat_map f (below n) ++ l) (append-nil (f n))
 
 abbrev pub rows_in_order : List (List Landing) → List (List Landing)
 rows_in_order rows = reverse (map reverse rows)

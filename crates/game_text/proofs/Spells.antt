@@ -15,6 +15,7 @@ use Rattle.game_text.specs.Entries.{Entry, Version, Size, Total, Discount, Step,
 use Rattle.game_text.proofs.Guards.{IsAfter}
 use Rattle.game_text.proofs.Said.{StepFits, OutFits}
 use Rattle.game_text.proofs.Runs.{IsFirst, IsStep, IsOut, May, Run, header, step_of, outs, spelled, AfterHead, IsBack, IsFullBack, RewardFits, Good, head_pair, shape_outs, sum_outs, pair_outs, shape_spelled, begun_spelled, Front, front, rows_full, open_before}
+use Rattle.text_words.proofs.Texts.{each_reverse}
 
 -- from rows to a chain
 
@@ -160,10 +161,6 @@ finished entries run =
     }
 
 -- lists from behind
-
-pub each_reverse : {X : Type 0} (P : X → Type 0) (xs : List X) → AllByRecursion P xs → AllByRecursion P (reverse xs)
-each_reverse P [] h = tt
-each_reverse {X} P (x ∷ xs) h = rw (reverse-cons x xs) (each-append P (reverse xs) (x ∷ []) (each_reverse P xs h.1) (h.0, tt))
 
 pub sum_reverse : (row : List Landing) → row_sum (reverse row) ≡ row_sum row
 sum_reverse [] = refl

@@ -15,7 +15,8 @@ use Rattle.text_words.specs.Numbers.{numbers_of}
 use Rattle.text_words.specs.Forms.{number_at, numbers_said, numbers_after}
 use Rattle.text_words.specs.declared.forms.NumbersFault.{NumbersFault}
 use Rattle.text_words.specs.declared.forms.NumbersFault.TheVariants.{Shape, Number, OutOfMemory}
-use Rattle.text_words.proofs.Printed.{numbers_of-printed, numbers_of-prints}
+use Rattle.text_words.proofs.Printed.{numbers_of-printed, numbers_of-prints, signed_decimal-above}
+use Rattle.text_words.proofs.Whole.{IsWord}
 use Rattle.text_words.proofs.Limits.{IsInside, cond_then, or_some, and_true}
 
 -- a number of at most 36 digits
@@ -65,6 +66,10 @@ numbers_after-same shape number name ns small =
 
 pub numbers_after-to : {K : Type 0} (shape number : K) (name : List ℕ) (count : ℕ) (ns : List ℤ) → length ns ≡ count → AllByRecursion Small ns → numbers_after shape number name count (numbered name ns) ≡ Ok ns
 numbers_after-to shape number name count ns e small = subst (λ (k : ℕ). numbers_after shape number name k (numbered name ns) ≡ Ok ns) e (numbers_after-same shape number name ns small)
+
+pub numbers_written : (numbers : List ℤ) → AllByRecursion Small numbers → AllByRecursion IsWord (map signed_decimal numbers)
+numbers_written [] small = tt
+numbers_written (z ∷ numbers) small = (signed_decimal-above z small.0, numbers_written numbers small.1)
 
 -- so many numbers
 

@@ -22,14 +22,14 @@ is_space b = eqb b 32
 abbrev pub IsWord : List ℕ → Type 0
 IsWord word = AllByRecursion (λ b. 32 < b) word
 
-abbrev Lacks : (ℕ → Bool) → List ℕ → Type 0
+abbrev pub Lacks : (ℕ → Bool) → List ℕ → Type 0
 Lacks p bytes = AllByRecursion (λ b. p b ≡ false) bytes
 
-split_at : (p : ℕ → Bool) (xs : List ℕ) (y : ℕ) (ys : List ℕ) → Lacks p xs → p y ≡ true → slice_split p (xs ++ y ∷ ys) ≡ xs ∷ slice_split p ys
+pub split_at : (p : ℕ → Bool) (xs : List ℕ) (y : ℕ) (ys : List ℕ) → Lacks p xs → p y ≡ true → slice_split p (xs ++ y ∷ ys) ≡ xs ∷ slice_split p ys
 split_at p [] y ys none is = slice_split-cons_yes p y ys is
 split_at p (x ∷ xs) y ys none is = slice_split-cons_no p x (xs ++ y ∷ ys) none.0 ∙ ap (onto_first x) (split_at p xs y ys none.1 is)
 
-split_none : (p : ℕ → Bool) (xs : List ℕ) → Lacks p xs → slice_split p xs ≡ xs ∷ []
+pub split_none : (p : ℕ → Bool) (xs : List ℕ) → Lacks p xs → slice_split p xs ≡ xs ∷ []
 split_none p [] none = refl
 split_none p (x ∷ xs) none = slice_split-cons_no p x xs none.0 ∙ ap (onto_first x) (split_none p xs none.1)
 
@@ -104,7 +104,7 @@ joined_line bytes = join_with_byte-slice_split 32 bytes
 abbrev Found : List ℕ → Line → List Line → Type 0
 Found text line lines = (text ≡ line_text line ++ after_first is_feed text) × (lines_of (after_first is_feed text) ≡ lines)
 
-cons_is : (a b : Line) (cs ds : List Line) → a ∷ cs ≡ b ∷ ds → (a ≡ b) × (cs ≡ ds)
+pub cons_is : (a b : Line) (cs ds : List Line) → a ∷ cs ≡ b ∷ ds → (a ≡ b) × (cs ≡ ds)
 cons_is a b cs ds e = (cc, cc)
 
 nil_is : (b : Line) (bs : List Line) → [] ≡ b ∷ bs → ⊥
