@@ -1,13 +1,12 @@
 -- Lists by their places: texts of members in order, changed last members, branches from behind.
-use Rattle.std.proofs.Common.{◌≡◌, ℕ, zero, suc, ◌+◌, ◌<◌, Bool, true, false, cond, ◌&&◌, List, [], ◌∷◌, ◌++◌, reverse, length, map, get_or, ℤ, pos, refl, sym, ap, subst, ◌∙◌, arith, append-nil, add-one}
+use Rattle.std.proofs.Common.{◌≡◌, ℕ, zero, suc, ◌+◌, ◌<◌, Bool, true, false, cond, ◌&&◌, List, [], ◌∷◌, ◌++◌, reverse, length, map, get_or, ℤ, pos, refl, sym, ap, subst, ◌∙◌, arith, add-one}
 use Rattle.std.specs.Prelude.{flat_map, ◌+ℤ◌, ◌==◌, slice_index_or}
 use Rattle.std.specs.List.{AllByRecursion, range_with_len}
 use mathlib.Core.List.{reverse-cons}
 use Rattle.std.proofs.lemmas.List.{get_or_append_left, get_or_at}
-use Rattle.std.proofs.lemmas.List.Concat.{flat_map-append}
 use Rattle.std.proofs.lemmas.Int.{ints}
 use Rattle.scaled_num.specs.Sums.{below, total}
-use Rattle.scaled_num.proofs.Sums.{below-each, each-append}
+use Rattle.scaled_num.proofs.Sums.{below-each}
 use Rattle.game_model.specs.Branches.{Branch, IsBranchBefore, AreRising, branches_at}
 use Rattle.cert_text.specs.Made.{at_last}
 use Rattle.text_words.proofs.Texts.{flat_below, each_more}

@@ -1,12 +1,10 @@
 -- Accepted lines are texts of games, and texts of games are accepted.
 use Rattle.std.proofs.Common.{◌≡◌, ℕ, ◌≤◌, List, [], ◌∷◌, ◌++◌, reverse, length, map, ℤ, pos, refl, sym, ap, subst, ◌∙◌, arith, inl, inr}
 use Rattle.std.specs.Prelude.{neg_ℤ}
-use Rattle.std.specs.Fmt.{signed_decimal}
 use Rattle.std.specs.List.{AllByRecursion}
 use Rattle.std.proofs.lemmas.List.{append_cancel_right, length-reverse}
 use Rattle.text_words.specs.Lines.{Line, lines_of, after_lines}
 use Rattle.text_words.proofs.Numerals.{Small, small_within, numbers_written}
-use Rattle.text_words.proofs.Printed.{signed_decimal-above}
 use Rattle.text_words.proofs.Whole.{IsWord, IsWritten, lines_text, lines_of-front, lines_of-lines, after_lines-lines}
 use Rattle.game_model.specs.declared.parts.Shape.{Shape}
 use Rattle.game_model.specs.declared.parts.Landing.{Landing}

@@ -1,13 +1,11 @@
 -- The bytes of a chain of entries are the text of its game.
 use Rattle.std.proofs.Common.{◌≡◌, ℕ, zero, suc, ◌+◌, ◌*◌, ◌/◌, ◌%◌, ◌<◌, List, [], ◌∷◌, ◌++◌, reverse, length, map, get_or, ℤ, pos, refl, sym, ap, ◌∙◌, arith, append_assoc, append-nil}
 use Rattle.std.specs.Prelude.{flat_map, codes}
-use Rattle.std.specs.List.{AllByRecursion, range_with_len}
 use mathlib.Core.List.{reverse-cons}
 use Rattle.std.proofs.lemmas.List.{get_or_append_left, get_or_at, length-reverse}
 use Rattle.std.proofs.lemmas.List.Concat.{flat_map-append}
 use Rattle.std.proofs.Math.Arith.{digits_div, digits_mod}
 use Rattle.scaled_num.specs.Sums.{below}
-use Rattle.scaled_num.proofs.Sums.{below-each}
 use Rattle.text_words.specs.Lines.{line_text}
 use Rattle.text_words.proofs.Whole.{lines_text}
 use Rattle.game_model.specs.declared.parts.Shape.{Shape}

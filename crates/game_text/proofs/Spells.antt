@@ -6,7 +6,7 @@ use mathlib.Core.List.{reverse-cons}
 use Rattle.std.proofs.lemmas.List.{reverse-reverse, length-reverse}
 use Rattle.std.proofs.lemmas.Int.{ints}
 use Rattle.std.proofs.Math.Nat.{div-lt_iff_lt-mul, mod-lt}
-use Rattle.scaled_num.proofs.Sums.{each-append, total-append}
+use Rattle.scaled_num.proofs.Sums.{total-append}
 use Rattle.game_model.specs.declared.parts.Shape.{Shape}
 use Rattle.game_model.specs.declared.parts.Landing.{Landing}
 use Rattle.game_model.specs.Game.{GameData, IsGame, AreCoprime, IsBelief, IsShape, IsBefore, IsRising, IsLanding, IsRow, triples, row_sum}
