@@ -1,10 +1,10 @@
 -- What one stage costs a point whose masses are split into corners.
 use Rattle.std.proofs.Common.{◌≡◌, ℕ, ◌*◌, ◌<◌, Bool, true, false, cond, ◌==◌, List, ap, arith, sym, ◌∙◌}
-use Rattle.std.specs.Prelude.{ℤ, pos, ◌+ℤ◌, ◌*ℤ◌, ◌≤ℤ◌, sum_by}
+use Rattle.std.specs.Prelude.{ℤ, pos, ◌+ℤ◌, ◌*ℤ◌, ◌≤ℤ◌}
 use Rattle.std.proofs.lemmas.Int.{ints}
 use Rattle.scaled_num.specs.Sums.{below, total}
 use Rattle.scaled_num.proofs.Products.{le-mulℤ, products, sums}
-use Rattle.scaled_num.proofs.Sums.{each, total-add, total-below, total-same, total-scale, total-single, total-swap, total-weights}
+use Rattle.scaled_num.proofs.Sums.{total-add, total-below, total-scale, total-single}
 use Rattle.game_model.specs.Branches.{mix_total}
 use Rattle.game_model.specs.Game.{GameData, numbers, unit}
 use Rattle.game_model.specs.Numbers.{Numbers, over_row}

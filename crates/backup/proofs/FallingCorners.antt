@@ -1,10 +1,10 @@
 -- The values of the corners fall from round to round, and they stay within the span.
-use Rattle.std.proofs.Common.{◌≡◌, ℕ, suc, zero, ◌*◌, ◌/◌, ◌<◌, ◌≤◌, ap, arith, sym, subst, refl, ◌∙◌}
+use Rattle.std.proofs.Common.{◌≡◌, ℕ, suc, zero, ◌*◌, ◌/◌, ◌<◌, ◌≤◌, arith, sym, subst, refl}
 use Rattle.std.specs.Int.{int_max}
 use Rattle.std.specs.Prelude.{ℤ, pos, negsuc, neg_ℤ, ◌+ℤ◌, ◌-ℤ◌, ◌*ℤ◌, ◌≤ℤ◌, ◌<ℤ◌}
 use Rattle.std.proofs.lemmas.Int.{ints}
 use Rattle.std.proofs.Math.Nat.{mul-le-mul_left}
-use Rattle.scaled_num.proofs.Products.{add-mulℤ, lt-mulℤ_cancel, mulℤ_comm, sums, mul-neg, neg-mul}
+use Rattle.scaled_num.proofs.Products.{add-mulℤ, lt-mulℤ_cancel, mulℤ_comm, sums, neg-mul}
 use Rattle.game_model.specs.Numbers.{Numbers}
 use Rattle.game_model.specs.Seeds.{KeepsSpan, stage_worth}
 use Rattle.game_model.proofs.SeedVectors.{stage-within, worth-le}

@@ -1,9 +1,7 @@
 -- What stands at every place stands at each one.
-use Rattle.std.proofs.Common.{ℕ, ◌<◌, List, [], ◌∷◌, ◌++◌, length, map, flat_map, cond, ◌==◌, refl, arith, sym, ◌∙◌, subst, eq-eqb}
+use Rattle.std.proofs.Common.{ℕ, ◌<◌, [], ◌∷◌, ◌++◌, length, map, flat_map, cond, ◌==◌, refl, subst, eq-eqb}
 use Rattle.std.specs.List.{AllByRecursion}
-use Rattle.std.proofs.lemmas.List.FromFn.{get_or-range_with_len, length-range_with_len}
 use Rattle.scaled_num.specs.Sums.{below}
-use Rattle.scaled_num.proofs.Sums.{each-at}
 use Rattle.controller.specs.Certificates.{CertificateData, CornerAt, BoundAt, Holds, NodeAt, OutcomeAt, Place, SplitAt, StartAt, ValueAt, corner_places, node_places, places, point_places, split_places, value_places}
 use Rattle.game_model.specs.Game.{GameData}
 use Rattle.scaled_num.proofs.Each.{each-front, each-back, each-of-map, each-of-flat_map, at-below}

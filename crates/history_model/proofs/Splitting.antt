@@ -1,6 +1,6 @@
 -- What the plans of a point hold player one to.
 use Rattle.std.proofs.Common.{◌≡◌, ◌≢◌, ℕ, suc, zero, ◌+◌, ◌*◌, ◌/◌, ◌^◌, ◌<◌, ◌≤◌, List, [], ◌∷◌, ◌++◌, length, refl, ap, subst, arith, sym, ◌∙◌, ne_eqb, inl, inr}
-use Rattle.std.specs.Prelude.{ℤ, pos, ◌+ℤ◌, ◌*ℤ◌, ◌≤ℤ◌, sum_by, map, flat_map, cond, ◌==◌, Bool, true, false}
+use Rattle.std.specs.Prelude.{ℤ, pos, ◌+ℤ◌, ◌*ℤ◌, ◌≤ℤ◌, sum_by, map, cond, ◌==◌, Bool, true, false}
 use Rattle.std.specs.List.{AllByRecursion, range_with_len}
 use Rattle.std.proofs.Math.Nat.{pow-zero, pow-suc, mul_comm, mul-pos, mul-div_cancel_left}
 use Rattle.std.proofs.lemmas.Int.{ints}
@@ -14,12 +14,12 @@ use Rattle.game_model.specs.Play.{Step, first_steps, step_weight, own_branch, ow
 use Rattle.point_set.specs.Points.{Point, Share, mass, shares_at}
 use Rattle.history_model.specs.Plans.{belief_pay, belief_total, informed_plan, mass_product, masses, product_of_positive}
 use Rattle.history_model.proofs.Parts.{PointKeeps, PointLoses, SplittingHolds, SplittingPlans}
-use Rattle.scaled_num.proofs.Products.{mulℤ_comm, mulℤ_assoc, mulℤ_left_comm, le-mulℤ, products, sums}
+use Rattle.scaled_num.proofs.Products.{mulℤ_assoc, mulℤ_left_comm, le-mulℤ, products, sums}
 use Rattle.scaled_num.proofs.Sums.{total-scale, total-add, total-same, total-le, total-below, total-below-le, total-weights, total-pos, total-map, total-swap, total-places, sum_by-map, each, each-at, each-map, below-each, sum_by-same}
 use Rattle.game_model.proofs.Steps.{total-first_steps, total-coins_row, total-row}
 use Rattle.game_model.proofs.Pay.{each-from, pay-first_steps}
 use Rattle.scaled_num.proofs.Each.{each-of-map, each-of-flat_map, at-below}
-use Rattle.point_set.proofs.Masses.{behind-two, mass-total, masses-total}
+use Rattle.point_set.proofs.Masses.{mass-total, masses-total}
 
 -- a number times a sum of whole numbers
 sum_by-scale : {X : Type 0} (k : ℕ) (f : X → ℕ) (xs : List X) → sum_by (λ x. k * f x) xs ≡ k * sum_by f xs

@@ -1,12 +1,9 @@
 -- A seed vector that stands in a list: the size of its entries.
-use Rattle.std.proofs.Common.{◌≡◌, ℕ, ◌^◌, ◌<◌, ◌≤◌, List, length, sym, ap, subst, arith}
-use Rattle.std.specs.Prelude.{ℤ, pos, neg_ℤ, ◌*ℤ◌, ◌≤ℤ◌, unsigned_abs, slice_index_or}
+use Rattle.std.proofs.Common.{◌≡◌, ℕ, ◌^◌, ◌<◌, ◌≤◌, List, length, subst, arith}
+use Rattle.std.specs.Prelude.{ℤ, pos, neg_ℤ, ◌≤ℤ◌, unsigned_abs, slice_index_or}
 use Rattle.std.specs.List.{AllByRecursion}
 use Rattle.std.proofs.lemmas.Int.{ints}
-use Rattle.scaled_num.specs.Sums.{below, total}
-use Rattle.scaled_num.proofs.Sums.{each-at, total-below}
-use Rattle.game_model.specs.Game.{GameData, IsGame, IsWithin, first_at, numbers, span}
-use Rattle.game_model.specs.Numbers.{product}
+use Rattle.game_model.specs.Game.{GameData, IsGame, numbers, span}
 use Rattle.game_model.specs.Seeds.{IsSeed, SeedsStand, KeepsSpan}
 use Rattle.game_model.proofs.Worth.{span-small}
 use Rattle.scaled_num.proofs.Each.{each-by-place}

@@ -5,7 +5,6 @@ use Rattle.std.specs.List.{AllByRecursion}
 use Rattle.std.proofs.lemmas.Int.{ints}
 use Rattle.scaled_num.specs.Sums.{sum_of}
 use Rattle.scaled_num.proofs.Sums.{each-at, sum-most}
-use Rattle.game_model.proofs.Sizes.{total-more}
 use Rattle.game_model.specs.Game.{GameData, IsGame, IsMass, IsWithin}
 use Rattle.scaled_num.proofs.Each.{each-by-place}
 

@@ -1,4 +1,4 @@
-use Rattle.std.proofs.Common.{rules, ℕ, ◌∙◌}
+use Rattle.std.proofs.Common.{rules, ℕ}
 use Rattle.std.specs.Prelude.{pos, slice_index_or}
 use Rattle.osposg_cli.proofs.Seeded.{entries-small}
 use Rattle.osposg_cli.proofs.floor.seed_product.Goals as goal
