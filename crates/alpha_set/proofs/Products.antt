@@ -2,7 +2,7 @@
 use Rattle.std.proofs.Common.{◌≡◌, ℕ, ◌+◌, ◌*◌, ◌^◌, ◌<◌, ◌≤◌, ◌⊎◌, inl, inr, List, [], ◌∷◌, ◌++◌, length, get_or, of_z, set, take, refl, ap, arith, sym, subst, ◌∙◌}
 use Rattle.std.specs.Prelude.{ℤ, pos, negsuc, neg_ℤ, ◌+ℤ◌, ◌*ℤ◌, ◌≤ℤ◌, ◌<ℤ◌, unsigned_abs, FitsSigned, sum_by}
 use Rattle.std.specs.List.{AllByRecursion}
-use Rattle.std.specs.Int.{w128}
+use Rattle.std.specs.Int.{w64, w128}
 use Rattle.std.proofs.Math.Nat.{mul-le-mul_left, mul-le-mul_right}
 use Rattle.std.proofs.lemmas.Int.{ints, fits_signed_from_abs, unsigned_abs-mul}
 use Rattle.std.proofs.lemmas.List.{get_or-map, length-append, length-map, take_more_set}
@@ -16,7 +16,7 @@ use Rattle.game_model.proofs.Pay.{each-from}
 use Rattle.game_model.proofs.Sizes.{total-more}
 use Rattle.alpha_set.specs.Members.{data_of, most_nodes, node_data}
 use Rattle.alpha_set.specs.Nodes.{NodeData, NodeFits, no_node}
-use Rattle.alpha_set.specs.Products.{CanMultiply, IsFirstBest, IsGathered, node_product_of}
+use Rattle.alpha_set.specs.Products.{AreNarrow, AreShort, CanMultiply, HaveNarrowEntries, IsFirstBest, IsGathered, node_product_of}
 use Rattle.alpha_set.specs.Worth.{AreWeighed, IsWorth}
 use Rattle.alpha_set.specs.declared.nodes.Node.{Node as NodeParts}
 use Rattle.alpha_set.specs.declared.worth.Portion.{Portion}
@@ -36,6 +36,7 @@ pub gathered-skip : (mass : List ℤ) (i : ℕ) (portions : List Portion) → at
 gathered-skip mass i portions empty h = record {
   few = omega (arith, h.few);
   inside = later i portions h.inside;
+  drawn = h.drawn;
   positive = h.positive;
   same = λ f.
       let nothing : at mass i *ℤ f i ≡ pos 0 = ap (λ (z : ℤ). z *ℤ f i) empty ∙ none_times (f i) in
@@ -49,6 +50,7 @@ pub gathered-more : (mass : List ℤ) (i : ℕ) (portions : List Portion) → po
 gathered-more mass i portions low h = record {
   few = omega (arith, h.few, length-append portions (portion i (at mass i) ∷ []));
   inside = each-append (λ (p : Portion). p.state < i + 1) portions (portion i (at mass i) ∷ []) (later i portions h.inside) (omega arith, tt);
+  drawn = each-append (λ (p : Portion). p.mass ≡ at mass p.state) portions (portion i (at mass i) ∷ []) h.drawn (refl, tt);
   positive = each-append (λ (p : Portion). pos 0 ≤ℤ p.mass) portions (portion i (at mass i) ∷ []) h.positive (low, tt);
   same = λ f.
       total-append (λ (p : Portion). p.mass *ℤ f p.state) portions (portion i (at mass i) ∷ [])
@@ -100,6 +102,35 @@ next-portion portions vector i sum can l so_far =
         let product : unsigned_abs (term vector p) ≤ size p * most = rw (unsigned_abs-mul p.mass (at vector p.state)) (mul-le-mul_left (size p) small) in
         omega (arith, abs-add sum (term vector p))
 
+-- ---- the short way
+narrow : (x : ℤ) → unsigned_abs x < 2 ^ 63 → FitsSigned w64 x
+narrow x h = fits_signed_from_abs w64 x (omega arith)
+
+pub narrow-mass : (portions : List Portion) (vector : List ℤ) (i : ℕ) → AreShort portions vector → i < length portions → FitsSigned w64 (get_or portions i none).mass
+narrow-mass portions vector i short l = narrow (get_or portions i none).mass (each-at (λ (p : Portion). unsigned_abs p.mass < 2 ^ 63) none portions i short.masses l)
+
+pub narrow-entry : (portions : List Portion) (vector : List ℤ) (i : ℕ) → CanMultiply portions vector → AreShort portions vector → i < length portions →
+    FitsSigned w64 (at vector (get_or portions i none).state)
+narrow-entry portions vector i can short l =
+    let inside : (get_or portions i none).state < length vector = each-at (λ (p : Portion). p.state < length vector) none portions i can.inside l in
+    narrow (at vector (get_or portions i none).state) (each-at (λ x. unsigned_abs x < 2 ^ 63) (pos 0) vector (get_or portions i none).state short.entries inside)
+
+-- portions are narrow where the mass is
+pub narrow-portions : (mass : List ℤ) (portions : List Portion) → IsGathered mass (length mass) portions → AreNarrow mass → AllByRecursion (λ (p : Portion). unsigned_abs p.mass < 2 ^ 63) portions
+narrow-portions mass portions h each = each-both portions h.drawn h.inside
+  where
+    each-both : (ps : List Portion) → AllByRecursion (λ (p : Portion). p.mass ≡ at mass p.state) ps → AllByRecursion (λ (p : Portion). p.state < length mass) ps →
+        AllByRecursion (λ (p : Portion). unsigned_abs p.mass < 2 ^ 63) ps
+    each-both [] drawn inside = tt
+    each-both (p ∷ ps) drawn inside =
+        (subst (λ (x : ℤ). unsigned_abs x < 2 ^ 63) (sym drawn.0) (each-at (λ x. unsigned_abs x < 2 ^ 63) (pos 0) mass p.state each inside.0), each-both ps drawn.1 inside.1)
+
+pub short-all : (nodes : List NodeData) (mass : List ℤ) (portions : List Portion) → IsGathered mass (length mass) portions → AreNarrow mass → HaveNarrowEntries nodes →
+    AllByRecursion (λ (node : NodeData). AreShort portions node.vector) nodes
+short-all nodes mass portions gathered light entries =
+    each-from (λ (node : NodeData). AreNarrow node.vector) (λ (node : NodeData). AreShort portions node.vector) nodes
+    (λ node narrow. record { masses = narrow-portions mass portions gathered light; entries = narrow }) entries
+
 -- ---- what the places of an array hold after one more state
 pub mass-low : (mass : List ℤ) (i : ℕ) → AllByRecursion (λ x. pos 0 ≤ℤ x) mass → i < length mass → pos 0 ≤ℤ at mass i
 mass-low mass i h l = each-at (λ x. pos 0 ≤ℤ x) (pos 0) mass i h l
@@ -143,6 +174,10 @@ node-vector nodes k d l = ap (λ (node : NodeData). node.vector) (sym (get_or-ma
 pub can-at : (nodes : List NodeParts) (portions : List Portion) (k : ℕ) → AllByRecursion (λ (node : NodeData). CanMultiply portions node.vector) (data_of nodes) → k < length nodes →
     CanMultiply portions (get_or (data_of nodes) k no_node).vector
 can-at nodes portions k h l = each-at (λ (node : NodeData). CanMultiply portions node.vector) no_node (data_of nodes) k h (omega (arith, length-map nodes node_data))
+
+pub short-at : (nodes : List NodeParts) (portions : List Portion) (k : ℕ) → AllByRecursion (λ (node : NodeData). AreShort portions node.vector) (data_of nodes) → k < length nodes →
+    AreShort portions (get_or (data_of nodes) k no_node).vector
+short-at nodes portions k h l = each-at (λ (node : NodeData). AreShort portions node.vector) no_node (data_of nodes) k h (omega (arith, length-map nodes node_data))
 
 -- the mass of the portions is the mass
 sizes-are : (portions : List Portion) → AllByRecursion (λ (p : Portion). pos 0 ≤ℤ p.mass) portions → pos (sum_by size portions) ≡ total (λ (p : Portion). p.mass *ℤ pos 1) portions

@@ -8,7 +8,7 @@ ghost use Rattle.std.specs.Prelude.{IfOk, IfSome, IsErrOf, IsNone, OnErr, OnOk, 
 
 use crate::nodes::Node;
 use crate::stands::first_fault;
-use crate::worth::greatest;
+use crate::worth::{are_narrow, greatest};
 use game_model::Game;
 use std::alloc::Global;
 use std::marker::Model;
@@ -29,18 +29,22 @@ pub enum PushFault {
 #[derive(Drop)]
 pub struct NodeSet {
     nodes: Vec<Node>,
+    /// False where an entry of some node is not narrow.
+    narrow: bool,
 }
 
 impl Model for NodeSet {
-    ghost use Rattle.alpha_set.specs.Members.{most_nodes, node_data};
+    ghost use Rattle.alpha_set.specs.Members.{data_of, most_nodes, node_data};
     ghost use Rattle.alpha_set.specs.Nodes.{NodeData};
+    ghost use Rattle.alpha_set.specs.Products.{HaveNarrowEntries};
+    ghost use Rattle.std.specs.Bool.{IsTrue};
     ghost use Rattle.std.specs.Prelude.{List, length, map, ◌≤◌};
 
     ghost Value = { List NodeData };
 
     ghost view = { λ set. map node_data set.nodes.items };
 
-    ghost invariant = { λ set. length set.nodes.items ≤ most_nodes };
+    ghost invariant = { λ set. (length set.nodes.items ≤ most_nodes) × (IsTrue set.narrow → HaveNarrowEntries (data_of set.nodes.items)) };
 }
 
 impl NodeSet {
@@ -50,6 +54,7 @@ impl NodeSet {
     {
         NodeSet {
             nodes: Vec::new(alloc),
+            narrow: true,
         }
     }
 
@@ -85,9 +90,11 @@ impl NodeSet {
             return Err(PushFault::Full);
         }
         let number = self.nodes.len() as u32;
+        let narrow = self.narrow && are_narrow(&node.vector);
         if self.nodes.push(node).is_err() {
             return Err(PushFault::OutOfMemory);
         }
+        self.narrow = narrow;
         Ok(number)
     }
 
@@ -99,7 +106,7 @@ impl NodeSet {
         requires weighed { AreWeighed self.now mass.now }
         ensures { IsWorth self.now mass.now result.0 result.1 }
     {
-        greatest(&self.nodes, mass)
+        greatest(&self.nodes, self.narrow, mass)
     }
 
     /// Whether a node stands: None where the node rule holds at every state and informed action. Else the first of

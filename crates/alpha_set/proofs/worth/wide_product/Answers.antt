@@ -4,7 +4,7 @@ use Rattle.std.specs.Int.{w128}
 use Rattle.std.proofs.lemmas.Int.{to_z-of_z}
 use Rattle.scaled_num.specs.Share.{at}
 use Rattle.alpha_set.proofs.Products.{next-portion, none}
-use Rattle.alpha_set.proofs.worth.product.Goals as goal
+use Rattle.alpha_set.proofs.worth.wide_product.Goals as goal
 
 pub overflow_mul-sum : goal.overflow_mul-sum
 overflow_mul-sum c =
