@@ -6,7 +6,6 @@ use Rattle.std.proofs.lemmas.Int.{ints}
 use Rattle.std.proofs.lemmas.List.{get_or_append_left, get_or-append-add, get_or-set_same, get_or-set_other, length-set, get_or-replicate, length-replicate}
 use Rattle.scaled_num.specs.Share.{at}
 use Rattle.scaled_num.specs.Sums.{sum_of}
-use Rattle.scaled_num.proofs.Floors.{sum-zeros}
 use Rattle.scaled_num.proofs.Sums.{each-append, each-at}
 use Rattle.game_model.specs.Game.{IsBelief, IsWithin}
 use Rattle.belief.specs.Beliefs.{corner_of}

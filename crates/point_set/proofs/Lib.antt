@@ -7,9 +7,11 @@ pub mod Fitting
 pub mod MostTimes
 pub mod CornerNumbers
 pub mod PointBounds
+pub mod GapBounds
 pub mod LeastBounds
 pub mod ThreePoints
 pub mod Items
+pub mod KeptGaps
 pub mod Counted
 pub mod Taking
 pub mod Placing

@@ -80,13 +80,13 @@ pub all-times : (mass belief : List ℤ) (s : ℕ) (times : ℤ) → length mass
 all-times mass belief s times l h = record { fits = λ t m. h.fits t (omega arith); most = h.most }
 
 -- a number of times that is lowered
-pub times-fit : (times weight : ℤ) → IsWithin (pos 0) (pos (2 ^ 100)) times → IsWithin (pos 0) (pos (2 ^ 20)) weight → FitsSigned w128 (times *ℤ weight)
+pub times-fit : (times weight : ℤ) → IsWithin (pos 0) (pos (2 ^ 101)) times → IsWithin (pos 0) (pos (2 ^ 20)) weight → FitsSigned w128 (times *ℤ weight)
 times-fit times weight t w =
     let tl = t.0 in
     let th = t.1 in
     let wl = w.0 in
     let wh = w.1 in
-    let size : unsigned_abs (times *ℤ weight) ≤ 2 ^ 120 = rw (unsigned_abs-mul times weight) (mul-le (unsigned_abs times) (unsigned_abs weight) (2 ^ 100) (2 ^ 20) (omega (arith, ints)) (omega (arith, ints))) in
+    let size : unsigned_abs (times *ℤ weight) ≤ 2 ^ 121 = rw (unsigned_abs-mul times weight) (mul-le (unsigned_abs times) (unsigned_abs weight) (2 ^ 101) (2 ^ 20) (omega (arith, ints)) (omega (arith, ints))) in
     fits_signed_from_abs w128 (times *ℤ weight) (omega arith)
 
 pub floor-below : (q a b times : ℤ) → pos 1 ≤ℤ b → IsFloor q a b → a <ℤ (times *ℤ b) → q ≤ℤ times

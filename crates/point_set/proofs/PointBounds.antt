@@ -80,7 +80,7 @@ belief-small values mass belief value h =
     omega (arith, size, mul-le h.span (unsigned_abs (sum_of belief)) (2 ^ 66) (2 ^ 20) h.priced.narrow (light-total (length mass) belief h.right))
 
 -- a belief that fits so many times into a mass has no greater total than it, times that
-times-low : (mass belief : List ℤ) (times : ℤ) → AllByRecursion (λ x. pos 0 ≤ℤ x) mass → IsMostTimes mass belief times → pos 0 ≤ℤ times
+pub times-low : (mass belief : List ℤ) (times : ℤ) → AllByRecursion (λ x. pos 0 ≤ℤ x) mass → IsMostTimes mass belief times → pos 0 ≤ℤ times
 times-low mass belief times low h = h.most (pos 0) (λ s l. let part : pos 0 ≤ℤ at mass s = each-at (λ x. pos 0 ≤ℤ x) (pos 0) mass s low l in omega (arith, ints))
 
 times-total : (mass belief : List ℤ) (times : ℤ) → length belief ≡ length mass → FitsTimes mass belief times → (times *ℤ sum_of belief) ≤ℤ sum_of mass
@@ -119,16 +119,28 @@ bound-is values mass belief value times long =
     whole : (m t v c : ℤ) → t *ℤ v +ℤ (m -ℤ t *ℤ c) ≡ m +ℤ t *ℤ (v -ℤ c)
     whole m t v c = ring (m ∷ t ∷ v ∷ c ∷ []) ((x 1 ⊗ x 2) ⊕ (x 0 ⊖ (x 1 ⊗ x 3))) (x 0 ⊕ (x 1 ⊗ (x 2 ⊖ x 3))) (omega arith)
 
+-- the gap between a point and the corners
+pub gap-size : (values mass belief : List ℤ) (value : ℤ) (h : IsSized values mass belief value) → unsigned_abs (value -ℤ cost_at belief values) ≤ 2 * (h.span * unsigned_abs (sum_of belief))
+gap-size values mass belief value h =
+    let size : cost_size belief values ≤ h.span * unsigned_abs (sum_of belief) =
+    weights-cost belief values h.span (belief-low (length mass) belief h.right) (λ s l. h.priced.each s (subst (λ (n : ℕ). s < n) h.right.long l)) in
+    omega (arith, abs-less value (cost_at belief values), h.within, size, total-size (term belief values) (below (length belief)))
+  where
+    abs-less : (a b : ℤ) → unsigned_abs (a -ℤ b) ≤ unsigned_abs a + unsigned_abs b
+    abs-less a b = omega (arith, ints)
+
+pub gap-narrow : (values mass belief : List ℤ) (value : ℤ) → IsSized values mass belief value → unsigned_abs (value -ℤ cost_at belief values) ≤ 2 ^ 87
+gap-narrow values mass belief value h =
+    omega (arith, gap-size values mass belief value h, mul-le h.span (unsigned_abs (sum_of belief)) (2 ^ 66) (2 ^ 20) h.priced.narrow (light-total (length mass) belief h.right))
+
 -- all that the code forms fits
 pub record BoundFits (values mass belief : List ℤ) (value times : ℤ) : Type 0 where
   pub cost_fits : FitsSigned w128 (cost_at belief values)
   pub base_fits : FitsSigned w128 (cost_at mass values)
   pub gap_fits : FitsSigned w128 (value -ℤ cost_at belief values)
+  pub product_small : unsigned_abs (times *ℤ (value -ℤ cost_at belief values)) ≤ 2 ^ 125
   pub product_fits : FitsSigned w128 (times *ℤ (value -ℤ cost_at belief values))
   pub bound_fits : FitsSigned w128 (cost_at mass values +ℤ times *ℤ (value -ℤ cost_at belief values))
-
-abs-less : (a b : ℤ) → unsigned_abs (a -ℤ b) ≤ unsigned_abs a + unsigned_abs b
-abs-less a b = omega (arith, ints)
 
 pub bound-fits : (values mass belief : List ℤ) (value times : ℤ) → IsSized values mass belief value → IsMostTimes mass belief times → BoundFits values mass belief value times
 bound-fits values mass belief value times h most =
@@ -142,7 +154,7 @@ bound-fits values mass belief value times h most =
     let size : cost_size belief values ≤ span * B = weights-cost belief values span low (λ s l. priced.each s (subst (λ (n : ℕ). s < n) h.right.long l)) in
     let cost_size_is : unsigned_abs c ≤ span * B = omega (arith, size, total-size (term belief values) (below (length belief))) in
     let base_size : unsigned_abs m ≤ 2 ^ 124 = omega (arith, mass-small h.most span values mass priced, total-size (term mass values) (below (length mass))) in
-    let gap : unsigned_abs (value -ℤ c) ≤ 2 * (span * B) = omega (arith, abs-less value c, h.within, cost_size_is) in
+    let gap : unsigned_abs (value -ℤ c) ≤ 2 * (span * B) = gap-size values mass belief value h in
     let small : span * B ≤ 2 ^ 86 = mul-le span B (2 ^ 66) (2 ^ 20) priced.narrow (light-total (length mass) belief h.right) in
     let fits : T * B ≤ h.most = plain times (sum_of belief) (sum_of mass) h.most (times-low mass belief times priced.low most) h.right.sums.0 (times-total mass belief times h.right.long most.fits) priced.all in
     let product : unsigned_abs (times *ℤ (value -ℤ c)) ≤ 2 ^ 125 = rw (unsigned_abs-mul times (value -ℤ c)) (times-room T B h.most span (unsigned_abs (value -ℤ c)) fits priced.room gap) in
@@ -150,6 +162,7 @@ bound-fits values mass belief value times h most =
       cost_fits = fits_signed_from_abs w128 c (omega arith);
       base_fits = fits_signed_from_abs w128 m (omega arith);
       gap_fits = fits_signed_from_abs w128 (value -ℤ c) (omega arith);
+      product_small = product;
       product_fits = fits_signed_from_abs w128 (times *ℤ (value -ℤ c)) (omega arith);
       bound_fits = fits_signed_from_abs w128 (m +ℤ times *ℤ (value -ℤ c)) (omega (arith, abs-add m (times *ℤ (value -ℤ c))));
     }
@@ -159,14 +172,6 @@ bound-fits values mass belief value times h most =
       where
         product : (t b : ℤ) → pos 0 ≤ℤ t → pos 1 ≤ℤ b → t *ℤ b ≡ pos (unsigned_abs t * unsigned_abs b)
         product t b p q = ap (λ (z : ℤ). z *ℤ b) (magnitude-is t p) ∙ ap (λ (z : ℤ). pos (unsigned_abs t) *ℤ z) (magnitude-is b (omega (arith, ints)))
-
--- where the belief fits no times, the bound is the base
-pub bound-none : (values mass belief : List ℤ) (value times : ℤ) → length belief ≡ length mass → times ≡ pos 0 → cost_at mass values ≡ cost_less values mass belief value times
-bound-none values mass belief value times long none =
-    sym (ap (λ (t : ℤ). cost_at mass values +ℤ t *ℤ (value -ℤ cost_at belief values)) none ∙ no-more (cost_at mass values) (value -ℤ cost_at belief values)) ∙ bound-is values mass belief value times long
-  where
-    no-more : (m g : ℤ) → m +ℤ pos 0 *ℤ g ≡ m
-    no-more m g = omega (arith, ints)
 
 -- two greatest numbers of times are one
 pub one-times : (mass belief : List ℤ) (t u : ℤ) → IsMostTimes mass belief t → IsMostTimes mass belief u → t ≡ u

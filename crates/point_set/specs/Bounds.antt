@@ -1,5 +1,6 @@
 -- The bound of one point, over the values of the corners.
-use Rattle.std.specs.Prelude.{ℕ, ℤ, pos, List, length, sum_by, unsigned_abs, ◌≡◌, ◌<◌, ◌≤◌, ◌*◌, ◌^◌, ◌+ℤ◌, ◌-ℤ◌, ◌*ℤ◌, ◌≤ℤ◌}
+use Rattle.std.specs.Prelude.{ℕ, ℤ, pos, List, length, sum_by, unsigned_abs, ◌≡◌, ◌<◌, ◌≤◌, ◌⊎◌, ◌*◌, ◌^◌, ◌+ℤ◌, ◌-ℤ◌, ◌*ℤ◌, ◌≤ℤ◌, ◌<ℤ◌, FitsSigned}
+use Rattle.std.specs.Int.{w128}
 use Rattle.std.specs.List.{AllByRecursion}
 use Rattle.scaled_num.specs.Share.{at}
 use Rattle.scaled_num.specs.Sums.{below, sum_of, total}
@@ -37,8 +38,24 @@ pub record IsSized (values mass belief : List ℤ) (value : ℤ) : Type 0 where
   pub right : IsBelief (length mass) belief
   pub within : unsigned_abs value ≤ span * unsigned_abs (sum_of belief)
 
--- the cost where a belief is taken off a mass as often as it fits
-pub record IsPointBound (values mass belief : List ℤ) (value bound : ℤ) : Type 0 where
-  pub times : ℤ
-  pub most : IsMostTimes mass belief times
-  pub cost : bound ≡ cost_less values mass belief value times
+-- the bound is formed of what the mass costs at the corners and of the point's gap, which is below 0
+abbrev pub gap_bound : ℤ → ℤ → ℤ → ℤ
+gap_bound base gap times = base +ℤ times *ℤ gap
+
+-- a mass and a belief, with a gap below 0: all that is formed of them fits
+pub record HasRoom (mass belief : List ℤ) (gap base least : ℤ) : Type 0 where
+  pub right : IsBelief (length mass) belief
+  pub low : AllByRecursion (λ x. pos 0 ≤ℤ x) mass
+  pub light : AllByRecursion (λ x. x ≤ℤ pos (2 ^ 100)) mass
+  pub down : gap <ℤ pos 0
+  pub narrow : unsigned_abs gap ≤ 2 ^ 126
+  pub upto : least ≤ℤ base
+  pub near : unsigned_abs (base -ℤ least) ≤ 2 ^ 126
+  pub product : (times : ℤ) → IsMostTimes mass belief times → FitsSigned w128 (times *ℤ gap)
+  pub bound : (times : ℤ) → IsMostTimes mass belief times → FitsSigned w128 (gap_bound base gap times)
+
+-- the lesser of a number and of the bound where a belief is taken off a mass as often as it fits
+pub record IsLessened (mass belief : List ℤ) (gap base least result : ℤ) : Type 0 where
+  pub low : result ≤ℤ least
+  pub under : (times : ℤ) → IsMostTimes mass belief times → result ≤ℤ gap_bound base gap times
+  pub some : (result ≡ least) ⊎ ((times : ℤ) × (IsMostTimes mass belief times × (result ≡ gap_bound base gap times)))

@@ -1,7 +1,10 @@
--- The current corners that a set keeps by state.
-use Rattle.std.specs.Prelude.{ℕ, List, length, ◌≡◌, ◌<◌, ◌≤◌, ◌⊎◌, ◌<ℤ◌, ℤ, slice_index_or}
+-- The current corners that a set keeps by state, and the gaps by point.
+use Rattle.std.specs.Prelude.{ℕ, List, length, ◌≡◌, ◌<◌, ◌≤◌, ◌^◌, ◌⊎◌, ◌<ℤ◌, ◌-ℤ◌, ℤ, FitsSigned, slice_index_or}
+use Rattle.std.specs.Int.{w128}
 use Rattle.std.specs.List.{AllByRecursion}
 use Rattle.belief.specs.Beliefs.{corner_of}
+use Rattle.scaled_num.specs.Share.{at}
+use Rattle.point_set.specs.Bounds.{cost_at, cost_size}
 use Rattle.point_set.specs.Corners.{IsAtCorner, IsCurrentCorner, point_at}
 use Rattle.point_set.specs.Members.{most_points}
 use Rattle.point_set.specs.Points.{PointData}
@@ -33,3 +36,30 @@ pub record AreKept (points : List PointData) (corners : List ℕ) : Type 0 where
   pub narrow : AllByRecursion (λ (point : PointData). length point.belief ≤ 16) points
   pub all : length corners ≡ 16
   pub numbers : (s : ℕ) → s < 16 → IsCornerNumber points s (slice_index_or corners s 0)
+
+-- these are the values of the points of these numbers; the mark for none counts 0
+abbrev pub AreValuesOf : List PointData → List ℕ → List ℤ → Type 0
+AreValuesOf points corners values = (s : ℕ) → s < length corners → at values s ≡ (point_at points (slice_index_or corners s 0)).value
+
+-- the gap of a point: its value less what its belief costs at the corners, where no number is too great
+abbrev pub IsGap : List ℤ → PointData → ℤ → Type 0
+IsGap values point gap =
+    cost_size point.belief values ≤ 2 ^ 124 →
+    FitsSigned w128 (point.value -ℤ cost_at point.belief values) →
+    gap ≡ point.value -ℤ cost_at point.belief values
+
+-- the gaps of the first points, over the values of the corners
+pub record AreGapsOf (count : ℕ) (points : List PointData) (corners : List ℕ) (gaps : List ℤ) : Type 0 where
+  pub values : List ℤ
+  pub are : AreValuesOf points corners values
+  pub each : (i : ℕ) → i < count → IsGap values (point_at points i) (at gaps i)
+
+-- a gap for each point
+pub record AreGaps (points : List PointData) (corners : List ℕ) (gaps : List ℤ) : Type 0 where
+  pub count : length gaps ≡ length points
+  pub all : AreGapsOf (length points) points corners gaps
+
+-- what a set keeps beside its points
+pub record IsKept (points : List PointData) (corners : List ℕ) (gaps : List ℤ) : Type 0 where
+  pub corners_kept : AreKept points corners
+  pub gaps_kept : AreGaps points corners gaps

@@ -2,6 +2,7 @@
 #![tactic(auto)]
 
 mod corners;
+mod gaps;
 mod points;
 mod sawtooth;
 mod sets;

@@ -10,6 +10,7 @@ ghost use Rattle.std.specs.List.{AllByRecursion};
 ghost use Rattle.std.specs.Prelude.{IfOk, IfSome, IsErrOf, IsNone, OnErr, OnOk, [], length, slice_index_or, ℕ, ◌++◌, ◌<◌, ◌↔◌, ◌∷◌, ◌≡◌, ◌≤ℤ◌, ◌≤◌};
 
 use crate::corners::{NO_CORNER, corners_with};
+use crate::gaps::renew_gaps;
 use crate::points::Point;
 use crate::sawtooth::sawtooth_bound;
 use crate::split::{Split, split_mass};
@@ -37,10 +38,12 @@ pub struct PointSet {
     points: Vec<Point>,
     /// For each state the number of its current corner, or the mark for none.
     corners: [u32; MOST_STATES],
+    /// For each point the gap between its value and what its belief costs at the current corners.
+    gaps: Vec<i128>,
 }
 
 impl Model for PointSet {
-    ghost use Rattle.point_set.specs.Kept.{AreKept};
+    ghost use Rattle.point_set.specs.Kept.{IsKept};
     ghost use Rattle.point_set.specs.Members.{point_data};
     ghost use Rattle.point_set.specs.Points.{PointData};
     ghost use Rattle.std.specs.Prelude.{List, map};
@@ -49,7 +52,7 @@ impl Model for PointSet {
 
     ghost view = { λ set. map point_data set.points.items };
 
-    ghost invariant = { λ set. AreKept (map point_data set.points.items) set.corners };
+    ghost invariant = { λ set. IsKept (map point_data set.points.items) set.corners set.gaps.items };
 }
 
 impl PointSet {
@@ -60,6 +63,7 @@ impl PointSet {
         PointSet {
             points: Vec::new(alloc),
             corners: [NO_CORNER; MOST_STATES],
+            gaps: Vec::new(alloc),
         }
     }
 
@@ -96,9 +100,14 @@ impl PointSet {
         }
         let number = self.points.len() as u32;
         let corners = corners_with(self.corners, &self.points, &point);
-        if self.points.push(point).is_err() {
+        if self.gaps.push(0).is_err() {
             return Err(PushFault::OutOfMemory);
         }
+        if self.points.push(point).is_err() {
+            self.gaps.pop();
+            return Err(PushFault::OutOfMemory);
+        }
+        renew_gaps(&self.points, &self.corners, &corners, &mut self.gaps);
         self.corners = corners;
         Ok(number)
     }
@@ -130,8 +139,7 @@ impl PointSet {
         requires { AreMeasured self.now mass.now }
         ensures { IsSawtooth self.now mass.now result }
     {
-        let corners = self.first_corners(mass.len());
-        sawtooth_bound(&self.points, corners, mass)
+        sawtooth_bound(&self.points, &self.corners, &self.gaps, mass)
     }
 
     /// Splits a mass into beliefs of points, by a list of wanted points and weights. The total of the mass is shared

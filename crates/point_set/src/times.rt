@@ -1,8 +1,9 @@
 ghost use Rattle.game_model.specs.Game.{IsBelief, IsWithin};
-ghost use Rattle.point_set.specs.Sawtooth.{IsMostTimes};
+ghost use Rattle.point_set.specs.Sawtooth.{FitsTimes, IsMostTimes};
 ghost use Rattle.scaled_num.specs.Share.{IsFloor, at};
+ghost use Rattle.std.specs.Bool.{IsTrue};
 ghost use Rattle.std.specs.List.{AllByRecursion};
-ghost use Rattle.std.specs.Prelude.{length, pos, ℕ, ℤ, ◌*ℤ◌, ◌<◌, ◌^◌, ◌≡◌, ◌≤ℤ◌};
+ghost use Rattle.std.specs.Prelude.{length, pos, ℕ, ℤ, ◌*ℤ◌, ◌<◌, ◌^◌, ◌↔◌, ◌≡◌, ◌≤ℤ◌};
 
 /// The greatest number of a machine word.
 const WORD: i128 = 0xFFFF_FFFF_FFFF_FFFF;
@@ -23,6 +24,20 @@ pub fn most_times(mass: &[i128], belief: &[i128]) -> i128
         times = lowered(times, mass[s], belief[s]);
     }
     times
+}
+
+/// Whether a belief fits so many times into a mass, in every place.
+pub fn fits_times(mass: &[i128], belief: &[i128], times: i128) -> bool
+    requires belief { IsBelief (length mass.now) belief.now }
+    requires times { IsWithin (pos 0) (pos (2 ^ 101)) times }
+    ensures { IsTrue result ↔ FitsTimes mass.now belief.now times }
+{
+    for (s, weight) in belief.iter().enumerate() {
+        if times * *weight > mass[s] {
+            return false;
+        }
+    }
+    true
 }
 
 /// The first place at which a belief has weight.
@@ -57,13 +72,13 @@ fn lowered(times: i128, part: i128, weight: i128) -> i128
     }
 }
 
-/// The quotient of a part of a mass and a weight, rounded down.
-fn quotient(part: i128, weight: i128) -> i128
+/// The quotient of a part and a weight, rounded down.
+pub fn quotient(part: i128, weight: i128) -> i128
     requires part { pos 0 ≤ℤ part }
-    requires weight { IsWithin (pos 1) (pos (2 ^ 20)) weight }
+    requires weight { pos 1 ≤ℤ weight }
     ensures { IsFloor result part weight }
 {
-    if part <= WORD {
+    if part <= WORD && weight <= WORD {
         i128::from(part as u64 / weight as u64)
     } else {
         part / weight

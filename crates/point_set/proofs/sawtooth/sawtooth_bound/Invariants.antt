@@ -3,5 +3,5 @@ use Rattle.point_set.specs.Members.{data_of}
 use Rattle.point_set.proofs.LeastBounds.{LeastSoFar}
 use Rattle.point_set.proofs.sawtooth.sawtooth_bound.Given as goal
 
-abbrev pub invariant-loop-point : goal.invariant-loop-point
-invariant-loop-point l = LeastSoFar (data_of l.fn.points) (λ s. get_or l.fn.corners s 0) l.fn.mass l.point-index l.least
+abbrev pub invariant-loop-k : goal.invariant-loop-k
+invariant-loop-k l = LeastSoFar (data_of l.fn.points) (λ s. get_or l.fn.corners s 0) l.fn.mass l.k l.least

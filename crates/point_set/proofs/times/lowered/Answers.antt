@@ -1,7 +1,8 @@
-use Rattle.std.proofs.Common.{rules, arith, ◌*ℤ◌, ◌<ℤ◌, ◌≤ℤ◌, FitsSigned, ℤ, pos}
+use Rattle.std.proofs.Common.{rules, arith, ◌*ℤ◌, ◌<ℤ◌, ◌≤ℤ◌, ◌^◌, FitsSigned, ℤ, pos}
 use Rattle.std.specs.Int.{w128}
 use Rattle.std.proofs.lemmas.Int.{ints, to_z-of_z}
 use Rattle.scaled_num.specs.Share.{IsFloor}
+use Rattle.game_model.specs.Game.{IsWithin}
 use Rattle.point_set.proofs.MostTimes.{floor-below, floor-most, times-fit}
 use Rattle.point_set.proofs.times.lowered.Goals as goal
 
@@ -12,7 +13,9 @@ returns-else-times-weight-clause-high c =
     let some : pos 1 ≤ℤ weight = search rules in
     let part_fits : FitsSigned w128 c.args.part = c.ranges.part in
     let weight_fits : FitsSigned w128 weight = c.ranges.weight in
-    let fits : FitsSigned w128 (times *ℤ weight) = times-fit times weight c.requires.times c.requires.weight in
+    let high = c.requires.times.1 in
+    let wide : IsWithin (pos 0) (pos (2 ^ 101)) times = (c.requires.times.0, omega (arith, ints, high)) in
+    let fits : FitsSigned w128 (times *ℤ weight) = times-fit times weight wide c.requires.weight in
     let result_fits : FitsSigned w128 c.quotient.result = search rules in
     let over : c.args.part <ℤ (times *ℤ weight) = grind (arith, to_z-of_z, ints, c.if-times-weight.false) in
     let floor : IsFloor c.quotient.result c.args.part weight = simp to_z-of_z at c.quotient.ensures in

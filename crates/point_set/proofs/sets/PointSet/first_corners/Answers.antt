@@ -8,5 +8,5 @@ use Rattle.point_set.proofs.sets.PointSet.first_corners.Goals as goal
 
 pub returns-clause-current : goal.returns-clause-current
 returns-clause-current c =
-    let kept : AreKept c.args.self.now c.self.inside.corners = subst (λ (points : List PointData). AreKept points c.self.inside.corners) c.self.view_is c.self.invariant in
+    let kept : AreKept c.args.self.now c.self.inside.corners = subst (λ (points : List PointData). AreKept points c.self.inside.corners) c.self.view_is c.self.invariant.corners_kept in
     λ s l. subst (IsCurrentCorner c.args.self.now s) (sym (get_or-take c.args.states c.self.inside.corners s 0 l)) (current-corner c.args.self.now c.self.inside.corners s kept (c.requires.corners s l))

@@ -2,7 +2,7 @@ use Rattle.std.proofs.Common.{◌≡◌, ℕ, ◌<◌, get_or, length}
 use Rattle.scaled_num.specs.Share.{at}
 use Rattle.point_set.specs.Corners.{point_at}
 use Rattle.point_set.specs.Members.{data_of}
-use Rattle.point_set.proofs.sawtooth.corner_values.Given as goal
+use Rattle.point_set.proofs.gaps.corner_values.Given as goal
 
 abbrev pub invariant-loop-s : goal.invariant-loop-s
 invariant-loop-s l = record {
