@@ -1,7 +1,7 @@
 ghost use Rattle.point_set.specs.Bounds.{cost_at, cost_size};
 ghost use Rattle.point_set.specs.Corners.{point_at};
-ghost use Rattle.point_set.specs.Kept.{AreGaps, AreKept, AreGapsOf, AreValuesOf, IsGap};
-ghost use Rattle.point_set.specs.Members.{data_of, most_points, point_data};
+ghost use Rattle.point_set.specs.Kept.{AreGaps, AreGapsOf, AreKept, AreValuesOf, IsGap};
+ghost use Rattle.point_set.specs.Members.{data_of, point_data};
 ghost use Rattle.scaled_num.specs.Share.{at};
 ghost use Rattle.std.specs.Prelude.{length, ℕ, ◌+◌, ◌<◌, ◌^◌, ◌≡◌, ◌≤◌};
 
