@@ -30,7 +30,8 @@ overflow_mul-worth-3 c =
     let f = sides-fit g c.law_game.ensures.accepted (pos 0) c.at_once.result c.later.result (omega arith) c.at_once.ensures.small c.later.ensures.small in
     let over = f.over_fits in
     let later_fits = f.later_fits in
-    simp (c.discount-over.ensures, to_z-of_z) f.rest_fits
+    let rest = f.rest_fits in
+    simp (c.discount-over.ensures, to_z-of_z) (search rest)
 
 pub overflow_add-worth : goal.overflow_add-worth
 overflow_add-worth c =
@@ -120,4 +121,5 @@ returns c =
     let rest = f.rest_fits in
     let right = f.right_fits in
     let left = f.left_fits in
-    simp (c.discount-over.ensures, c.row_total.ensures, to_z-of_z) (tested _ _ _ _ (left_side c) (worth c))
+    let told = tested _ _ _ _ (left_side c) (worth c) in
+    simp (c.discount-over.ensures, c.row_total.ensures, to_z-of_z) (search told)
