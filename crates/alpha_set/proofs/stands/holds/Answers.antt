@@ -46,7 +46,8 @@ overflow_add-worth c =
     let units = f.units_fits in
     let earned = f.earned_fits in
     let rest = f.rest_fits in
-    simp (c.discount-over.ensures, c.row_total.ensures, to_z-of_z) f.right_fits
+    let right = f.right_fits in
+    simp (c.discount-over.ensures, c.row_total.ensures, to_z-of_z) (search right)
 
 entry : (c : goal.After-result-1) → c.index.result.now ≡ get_or c.args.node.now.vector.items c.args.s (pos 0)
 entry c = get_or_read c.args.node.now.vector.items _ _ (omega (arith, c.requires.fits.long)) c.index.ensures (pos 0)
@@ -78,7 +79,8 @@ overflow_mul-result-2 c =
     let scale_fits = f.scale_fits in
     let units = f.units_fits in
     let entry_fits = f.entry_fits in
-    simp (c.discount-over.ensures, c.row_total.ensures, to_z-of_z) f.left_fits
+    let left = f.left_fits in
+    simp (c.discount-over.ensures, c.row_total.ensures, to_z-of_z) (search left)
 
 left_side : (c : goal.After-result-1) →
     c.index.result.now *ℤ (pos 65536 *ℤ scale c.args.game.now)
