@@ -30,7 +30,8 @@ overflow_mul-worth-3 c =
     let f = sides-fit g c.law_game.ensures.accepted (pos 0) c.at_once.result c.later.result (omega arith) c.at_once.ensures.small c.later.ensures.small in
     let over = f.over_fits in
     let later_fits = f.later_fits in
-    simp (c.discount-over.ensures, to_z-of_z) f.rest_fits
+    let rest = f.rest_fits in
+    simp (c.discount-over.ensures, to_z-of_z) (search rest)
 
 pub overflow_add-worth : goal.overflow_add-worth
 overflow_add-worth c =
@@ -45,7 +46,8 @@ overflow_add-worth c =
     let units = f.units_fits in
     let earned = f.earned_fits in
     let rest = f.rest_fits in
-    simp (c.discount-over.ensures, c.row_total.ensures, to_z-of_z) f.right_fits
+    let right = f.right_fits in
+    simp (c.discount-over.ensures, c.row_total.ensures, to_z-of_z) (search right)
 
 entry : (c : goal.After-result-1) → c.index.result.now ≡ get_or c.args.node.now.vector.items c.args.s (pos 0)
 entry c = get_or_read c.args.node.now.vector.items _ _ (omega (arith, c.requires.fits.long)) c.index.ensures (pos 0)
@@ -77,7 +79,8 @@ overflow_mul-result-2 c =
     let scale_fits = f.scale_fits in
     let units = f.units_fits in
     let entry_fits = f.entry_fits in
-    simp (c.discount-over.ensures, c.row_total.ensures, to_z-of_z) f.left_fits
+    let left = f.left_fits in
+    simp (c.discount-over.ensures, c.row_total.ensures, to_z-of_z) (search left)
 
 left_side : (c : goal.After-result-1) →
     c.index.result.now *ℤ (pos 65536 *ℤ scale c.args.game.now)
@@ -120,4 +123,5 @@ returns c =
     let rest = f.rest_fits in
     let right = f.right_fits in
     let left = f.left_fits in
-    simp (c.discount-over.ensures, c.row_total.ensures, to_z-of_z) (tested _ _ _ _ (left_side c) (worth c))
+    let told = tested _ _ _ _ (left_side c) (worth c) in
+    simp (c.discount-over.ensures, c.row_total.ensures, to_z-of_z) (search told)

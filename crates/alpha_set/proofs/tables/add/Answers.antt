@@ -41,4 +41,5 @@ loop-t-preserved c =
 
 pub returns-clause-brought : goal.returns-clause-brought
 returns-clause-brought c =
-    added-at c.args.step.now c.args.table.now c.args.vector.now c.loop-t.table c.place-start.result c.loop-t.t c.place-start.ensures.place (omega arith) c.requires.few c.requires.seen c.loop-t.invariant
+    let at : c.place-start.result ≡ table_place c.args.step.now.a c.args.step.now.o 0 = omega (arith, c.place-start.ensures.place) in
+    added-at c.args.step.now c.args.table.now c.args.vector.now c.loop-t.table c.place-start.result c.loop-t.t at (omega arith) c.requires.few c.requires.seen c.loop-t.invariant
