@@ -1,9 +1,9 @@
 -- The laws of textbook runs: one run and one end, each dictionary narrow and feasible, a direction where a run ends unbounded.
-use Rattle.std.proofs.Common.{ℕ, suc, ◌+◌, ◌<◌, ◌≡◌, ℤ, pos, ◌≤ℤ◌, List, [], ◌∷◌, length, refl, sym, ap, ap₂, subst, ◌∙◌, arith}
+use Rattle.std.proofs.Common.{ℕ, suc, ◌≡◌, ℤ, pos, ◌≤ℤ◌, List, [], ◌∷◌, length, refl, sym, ap, ap₂, subst, ◌∙◌, arith}
 use Rattle.simplex.specs.declared.Program.{Program}
 use Rattle.simplex.specs.declared.End.{End}
 use Rattle.simplex.specs.declared.End.TheVariants.{Unbounded}
-use Rattle.simplex.specs.Program.{row_count, IsProgram}
+use Rattle.simplex.specs.Program.{IsProgram}
 use Rattle.simplex.specs.Dictionary.{Dictionary, IsDictionary, IsNarrowDictionary, IsFeasible}
 use Rattle.simplex.specs.Reading.{KeepsRows}
 use Rattle.simplex.specs.Laws.{HasDirection}

@@ -1,18 +1,18 @@
 -- A run that ends unbounded has a direction: the entering variable grows, and the basic ones with it.
-use Rattle.std.proofs.Common.{ℕ, suc, ◌+◌, ◌<◌, ◌≤◌, ◌≡◌, ◌≢◌, ℤ, pos, neg_ℤ, ◌+ℤ◌, ◌-ℤ◌, ◌*ℤ◌, ◌<ℤ◌, ◌≤ℤ◌, [], ◌∷◌, length, slice_index, refl, sym, ap, ap₂, subst, ◌∙◌, inl, inr, arith}
+use Rattle.std.proofs.Common.{ℕ, suc, ◌+◌, ◌<◌, ◌≤◌, ◌≡◌, ℤ, pos, neg_ℤ, ◌+ℤ◌, ◌-ℤ◌, ◌*ℤ◌, ◌<ℤ◌, ◌≤ℤ◌, [], ◌∷◌, length, slice_index, sym, ap, ap₂, subst, ◌∙◌, inl, inr, arith}
 use Rattle.std.proofs.lemmas.Bool.{cases_eq}
 use Rattle.std.proofs.lemmas.Int.{ints, by_lt_z}
 use Rattle.scaled_num.proofs.Ring.{ring, x, ◌⊕◌, ◌⊖◌, ◌⊗◌}
 use Rattle.simplex.specs.declared.Program.{Program}
-use Rattle.simplex.specs.Program.{sum_to, row_count, variable_count, cell, limit, gain}
+use Rattle.simplex.specs.Program.{sum_to, row_count, variable_count, cell, limit}
 use Rattle.simplex.specs.Laws.{HasDirection}
-use Rattle.simplex.specs.CostForm.{CostForm, entry, owner, IsDictionary, AreParted, IsImproving, IsBounding}
+use Rattle.simplex.specs.CostForm.{CostForm, entry, owner, IsDictionary, IsImproving, IsBounding}
 use Rattle.simplex.proofs.Combine.{comb, sum_same, sum_comb}
 use Rattle.simplex.proofs.Unique.{Determines, owner-below, owner-last}
 use Rattle.simplex.proofs.Choice.{times_le}
 use Rattle.simplex.proofs.Start.{one_at, one_at_same, one_at_other, sum_one, times_zero}
 use Rattle.simplex.proofs.Optimum.{residual, AllRowsHold, row_holds, equation, goal_value, not_negative_factor, not_negative_product}
-use Rattle.simplex.proofs.Read.{positive_product, product_to, product_positive, Found, find, value_at, value_there, value_nowhere, owner_once, owner_apart}
+use Rattle.simplex.proofs.Read.{positive_product, product_to, product_positive, find, value_at, value_there, value_nowhere, owner_once, owner_apart}
 
 -- ---- how far each variable goes, times the product of the leads
 leads_of : CostForm → ℕ → ℤ

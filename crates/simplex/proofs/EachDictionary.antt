@@ -1,19 +1,19 @@
 -- Each dictionary of a textbook run is narrow and feasible.
-use Rattle.std.proofs.Common.{ℕ, zero, suc, ◌+◌, ◌<◌, ◌≤◌, ◌≡◌, ℤ, pos, neg_ℤ, List, [], ◌∷◌, length, map, get_or, set, refl, sym, ap, subst, ◌∙◌, inl, inr, arith}
+use Rattle.std.proofs.Common.{ℕ, zero, suc, ◌+◌, ◌≤◌, ◌≡◌, ℤ, pos, neg_ℤ, List, [], ◌∷◌, length, map, get_or, set, refl, sym, ap, subst, ◌∙◌, inl, inr, arith}
 use Rattle.std.specs.List.{range_with_len}
 use Rattle.std.proofs.Math.ListN.{length-set, get_or-map}
 use Rattle.std.proofs.lemmas.Bool.{cases_lt}
 use Rattle.std.proofs.lemmas.List.{length-map}
 use Rattle.std.proofs.lemmas.List.FromFn.{get_or-map-range_with_len, length-map-range_with_len}
 use Rattle.simplex.specs.declared.Program.{Program}
-use Rattle.simplex.specs.Program.{at, row_count, variable_count, row_lists, limit, IsProgram}
+use Rattle.simplex.specs.Program.{row_count, variable_count, row_lists, limit, IsProgram}
 use Rattle.simplex.specs.CostForm.{CostForm, row_of, IsDictionary, IsFirst, IsNarrowDictionary, Pivot, Stands, IsTraded}
 use Rattle.simplex.specs.CostOptimum.{IsFeasible}
 use Rattle.simplex.specs.Start.{IsFilled, IsFilledFor}
 use Rattle.simplex.proofs.Turned.{at_shift}
 use Rattle.simplex.proofs.Start.{filled_below, filled_goal, first_dictionary, first_narrow}
 use Rattle.simplex.proofs.Feasible.{first_feasible, next_all_feasible}
-use Rattle.simplex.proofs.Run.{AreLong, long_rows, next_rows, leads, traded}
+use Rattle.simplex.proofs.Run.{long_rows, next_rows, leads, traded}
 use Rattle.simplex.proofs.Unique.{same_dictionary, same_traded, Stands-dictionary, Stands-determines}
 
 -- ---- the first dictionary, as a value

@@ -1,13 +1,13 @@
 -- Two programs with the same numbers have the same dictionaries, runs and ends.
-use Rattle.std.proofs.Common.{ℕ, ◌+◌, ◌<◌, ◌≤◌, ◌≡◌, ◌≢◌, ◌⊎◌, ℤ, pos, neg_ℤ, ◌-ℤ◌, ◌*ℤ◌, ◌≤ℤ◌, List, [], ◌∷◌, length, slice_index, get_or, sym, ap, subst, ◌∙◌}
+use Rattle.std.proofs.Common.{ℕ, ◌+◌, ◌<◌, ◌≡◌, ◌≢◌, ◌⊎◌, pos, neg_ℤ, ◌-ℤ◌, ◌*ℤ◌, ◌≤ℤ◌, List, [], ◌∷◌, length, slice_index, get_or, sym, subst, ◌∙◌}
 use Rattle.std.specs.List.{range_with_len}
 use Rattle.std.proofs.lemmas.List.{length-map}
 use Rattle.simplex.specs.declared.Program.{Program}
 use Rattle.simplex.specs.declared.End.{End}
 use Rattle.simplex.specs.declared.End.TheVariants.{Optimal, Spent, Unbounded, Wide}
-use Rattle.simplex.specs.Program.{sum_to, at, row_count, variable_count, row_lists, AllNarrow, ProgramData, program_data, IsProgram}
+use Rattle.simplex.specs.Program.{sum_to, at, row_count, row_lists, AllNarrow, ProgramData, program_data, IsProgram}
 use Rattle.simplex.specs.Dictionary.{Dictionary, AreParted, number, row_at, RowBelongs, GoalBelongs, IsDictionary}
-use Rattle.simplex.specs.Run.{IsTraded, IsFirst, IsPivot, IsRun, Ends, RunEnds}
+use Rattle.simplex.specs.Run.{IsTraded, IsFirst, IsRun, Ends, RunEnds}
 
 move : (P : ProgramData → Type 0) (p q : Program) → program_data p ≡ program_data q → P (program_data p) → P (program_data q)
 move P p q same h = subst P same h

@@ -1,5 +1,5 @@
 -- What holds of the textbook runs of every program, and of what is read from their dictionaries.
-use Rattle.std.specs.Prelude.{ℕ, ◌+◌, ◌<◌, ◌≡◌, ℤ, pos, ◌*ℤ◌, ◌≤ℤ◌, ◌<ℤ◌, List, ◌∷◌, length}
+use Rattle.std.specs.Prelude.{ℕ, ◌<◌, ◌≡◌, ℤ, pos, ◌*ℤ◌, ◌≤ℤ◌, ◌<ℤ◌, List, ◌∷◌, length}
 use Rattle.simplex.specs.declared.End.{End}
 use Rattle.simplex.specs.declared.End.TheVariants.{Unbounded}
 use Rattle.simplex.specs.declared.Program.{Program}
