@@ -5,7 +5,7 @@ use Rattle.std.specs.Str.{bytes_eq}
 use Rattle.text_words.specs.Lines.{Line, Word, lines_of, after_lines}
 use Rattle.text_words.specs.Forms.{◌>>=◌, begins, numbers_after, number_at}
 use Rattle.text_words.proofs.Numerals.{bytes_same, bytes_is}
-use Rattle.text_words.proofs.Whole.{lines_of-front}
+use Rattle.text_words.proofs.Chains.{bind_assoc, bind_same, begins_is, begins_so, true_false}
 use Rattle.game_model.specs.Game.{GameData, IsGame}
 use Rattle.game_model.specs.Branches.{Branch, mix_total}
 use Rattle.point_set.specs.Points.{most_share}
@@ -27,7 +27,7 @@ use Rattle.cert_text.proofs.LawWords.{version_line-ok, version_line-to}
 use Rattle.cert_text.proofs.OneForm.{Differ, node_apart, point_apart, same_entry}
 use Rattle.cert_text.proofs.Seen.{latest_in, lacking_in, place_in, place_next, place_behind, Kept, kept_first, kept_next}
 use Rattle.cert_text.proofs.Verdicts.{branch_steps, next_steps, split_steps, gap_checked, lower_checked, upper_checked, tail_checked, sizes_checked, start_checked, first_node_checked, node_checked, vector_checked, mix_checked, next_checked, first_point_checked, point_checked, belief_checked, value_checked, state_checked, split_checked, end_checked}
-use Rattle.cert_text.proofs.Judged.{JudgedAs, IsNumbers, IsFractions, judged_numbers, judged_fraction, judged_outcome, bind_assoc, bind_same, Judged, Others, judged, spared}
+use Rattle.cert_text.proofs.Judged.{JudgedAs, IsNumbers, IsFractions, judged_numbers, judged_fraction, judged_outcome, Judged, Others, judged, spared}
 
 -- ---- each form
 
@@ -165,16 +165,6 @@ second_only : (f h other : Form) → (name_of other ≡ name_of f → ⊥) → I
 second_only f h other n (inl e) = absurd (n (ap name_of e))
 second_only f h other n (inr (inl e)) = e
 second_only f h other n (inr (inr x)) = absurd x
-
-begins_is : (name : Word) (line : Line) (word : Word) (words : Line) → line ≡ word ∷ words → begins name line ≡ true → word ≡ name
-begins_is name line word words e h = bytes_is word name (sym (ap (begins name) e) ∙ h)
-
-begins_so : (name : Word) (line : Line) (word : Word) (words : Line) → line ≡ word ∷ words → word ≡ name → begins name line ≡ true
-begins_so name line word words e h = ap (begins name) e ∙ ap (λ (w : Word). bytes_eq w name) h ∙ bytes_same name
-
-true_false : (b : Bool) → b ≡ true → b ≡ false → ⊥
-true_false true p q = cc
-true_false false p q = cc
 
 pair_first : (g : GameData) (before : List Entry) (line : Line) (f h : Form) (r : Result Entry CertKind) → before ≢ [] → due g before ≡ f ∷ h ∷ [] → Differ f h → begins (name_of f) line ≡ true
     → JudgedAs g before line f r → Judged g before line r

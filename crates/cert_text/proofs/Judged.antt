@@ -9,6 +9,7 @@ use Rattle.text_words.specs.Numbers.{number_of, numbers_of}
 use Rattle.text_words.specs.Forms.{◌>>=◌, begins, numbers_after, numbers_said}
 use Rattle.text_words.proofs.Limits.{and_true, true_and}
 use Rattle.text_words.proofs.Numerals.{bytes_same, bytes_is}
+use Rattle.text_words.proofs.Chains.{first_word, later_words, no_words, true_false}
 use Rattle.std.proofs.lemmas.Bool.{eqb-true}
 use Rattle.game_model.specs.Game.{GameData, IsGame}
 use Rattle.game_model.specs.Branches.{Branch}
@@ -43,19 +44,6 @@ from_numbers : (g : GameData) (before : List Entry) (line : Line) (form : Form) 
     → Checked g before form words ns r → JudgedAs g before line form r
 from_numbers g before line form words ns (Ok e) is say c = (words, ns, is, say, c.0, c.1)
 from_numbers g before line form words ns (Err kind) is say c = inr (inr (words, ns, is, say, c))
-
-first_word : (a b : Word) (cs ds : Line) → a ∷ cs ≡ b ∷ ds → a ≡ b
-first_word a b cs ds e = cc
-
-later_words : (a b : Word) (cs ds : Line) → a ∷ cs ≡ b ∷ ds → cs ≡ ds
-later_words a b cs ds e = cc
-
-no_words : (word : Word) (words : Line) → [] ≡ word ∷ words → ⊥
-no_words word words e = cc
-
-untrue : (b : Bool) → b ≡ true → b ≡ false → ⊥
-untrue true p q = cc
-untrue false p q = cc
 
 eq_true : (m n : ℕ) → m ≡ n → (m == n) ≡ true
 eq_true m n e = grind (arith, nat_tests)
@@ -92,7 +80,7 @@ numbers_by g before form checks word words is ok false o p q =
           let b = later_words word (name_of form) words more m.0 in
           let long : length words ≡ words_after g form = ap (λ (ws : Line). length ws) b ∙ m.1 in
           let same : bytes_eq word (name_of form) ≡ true = ap (λ (w : Word). bytes_eq w (name_of form)) a ∙ bytes_same (name_of form) in
-          untrue (bytes_eq word (name_of form) && (length words == words_after g form)) (true_and (bytes_eq word (name_of form)) (length words == words_after g form) same (eq_true (length words) (words_after g form) long)) p),
+          true_false (bytes_eq word (name_of form) && (length words == words_after g form)) (true_and (bytes_eq word (name_of form)) (length words == words_after g form) same (eq_true (length words) (words_after g form) long)) p),
     )
 
 pub judged_numbers : (g : GameData) (before : List Entry) (line : Line) (form : Form) (checks : List ℤ → Result Entry CertKind) → IsNumbers form → ChecksNumbers g before form checks
@@ -101,16 +89,6 @@ unfolding numbers_after numbers_said
 judged_numbers g before [] form checks is ok = inl (refl, λ words m. no_words (name_of form) words m.0)
 judged_numbers g before (word ∷ words) form checks is ok =
     numbers_by g before form checks word words is ok (bytes_eq word (name_of form) && (length words == words_after g form)) (numbers_of words) refl refl
-
--- ---- steps within steps
-
-pub bind_assoc : {K A B C : Type 0} (m : Result A K) (f : A → Result B K) (h : B → Result C K) → ((m >>= f) >>= h) ≡ (m >>= (λ x. f x >>= h))
-bind_assoc (Ok x) f h = refl
-bind_assoc (Err e) f h = refl
-
-pub bind_same : {K A B : Type 0} (m : Result A K) (f h : A → Result B K) → ((x : A) → f x ≡ h x) → (m >>= f) ≡ (m >>= h)
-bind_same (Ok x) f h e = e x
-bind_same (Err k) f h e = refl
 
 -- ---- a line of a fraction
 
@@ -123,7 +101,7 @@ word_by : (g : GameData) (before : List Entry) (form : Form) (checks : Word → 
 word_by g before form checks first word one are ok true p =
     ok (first ∷ word ∷ []) (ap (λ (w : Word). w ∷ word ∷ []) (bytes_is first (name_of form) p), sym one, are (word ∷ []))
 word_by g before form checks first word one are ok false p =
-    inl (refl, λ more m. untrue (bytes_eq first (name_of form)) (ap (λ (w : Word). bytes_eq w (name_of form)) (first_word first (name_of form) (word ∷ []) more m.0) ∙ bytes_same (name_of form)) p)
+    inl (refl, λ more m. true_false (bytes_eq first (name_of form)) (ap (λ (w : Word). bytes_eq w (name_of form)) (first_word first (name_of form) (word ∷ []) more m.0) ∙ bytes_same (name_of form)) p)
 
 -- a line of one word after its name
 judged_word : (g : GameData) (before : List Entry) (line : Line) (form : Form) (checks : Word → Result Entry CertKind) → words_after g form ≡ 1 → ((words : Line) → AreWords form words)
@@ -242,7 +220,7 @@ outcome_name : (g : GameData) (before : List Entry) (first word : Word) (b : Boo
     → JudgedAs g before (first ∷ word ∷ []) OutcomeLine (cond b (Ok word) (Err kinds.Shape) >>= ending_of_word)
 outcome_name g before first word true p = outcome_by g before first word (bytes_is first (codes "outcome") p) (outcome_of word) refl
 outcome_name g before first word false p =
-    inl (refl, λ words m. untrue (bytes_eq first (codes "outcome")) (ap (λ (w : Word). bytes_eq w (codes "outcome")) (first_word first (codes "outcome") (word ∷ []) words m.0) ∙ bytes_same (codes "outcome")) p)
+    inl (refl, λ words m. true_false (bytes_eq first (codes "outcome")) (ap (λ (w : Word). bytes_eq w (codes "outcome")) (first_word first (codes "outcome") (word ∷ []) words m.0) ∙ bytes_same (codes "outcome")) p)
 
 pub judged_outcome : (g : GameData) (before : List Entry) (line : Line) → JudgedAs g before line OutcomeLine (word_after (codes "outcome") line >>= ending_of_word)
 unfolding word_after

@@ -4,8 +4,9 @@ use Rattle.std.specs.Prelude.{if◌then◌else◌, ◌≤ℤ◌, ◌<ℤ◌, uns
 use Rattle.std.specs.List.{AllByRecursion, list_all}
 use Rattle.std.proofs.lemmas.Bool.{eqb-true}
 use Rattle.scaled_num.specs.Sums.{sum_of}
-use Rattle.text_words.specs.Forms.{is_within, limited, below_limit, each_within}
+use Rattle.text_words.specs.Forms.{is_within}
 use Rattle.text_words.proofs.Limits.{and_true, true_and, le_from, lt_from, le_to, lt_to, within_from, within_to, pos_abs, each_from, each_to}
+use Rattle.text_words.proofs.Chains.{Tests, cond_tests}
 use Rattle.game_model.specs.Branches.{Branch, IsBranchBefore, mix_total}
 use Rattle.game_model.specs.Game.{IsWithin, AreCoprime}
 use Rattle.controller.specs.Certificates.{most_members}
@@ -19,21 +20,6 @@ use Rattle.cert_text.specs.Rules.{IsLater}
 use Rattle.cert_text.proofs.Divisor.{coprime_from, coprime_to}
 use Rattle.cert_text.proofs.LawGuards.{IsNone, squeezed, same_within, after_from, after_to, eq_true, none_from, none_to}
 use Rattle.cert_text.proofs.Seen.{latest_in}
-
--- the test gives this value where P holds, and else this kind
-abbrev pub Tests : {A : Type 0} → Result A CertKind → CertKind → A → Type 0 → Type 0
-Tests m kind value P = ((m ≡ Ok value) × P) ⊎ ((m ≡ Err kind) × (P → ⊥))
-
-untrue : false ≡ true → ⊥
-untrue e = cc
-
-cond_tests : {A : Type 0} (b : Bool) (value : A) (kind : CertKind) (P : Type 0) → (b ≡ true → P) → (P → b ≡ true) → Tests (cond b (Ok value) (Err kind)) kind value P
-cond_tests true value kind P from to = inl (refl, from refl)
-cond_tests false value kind P from to = inr (refl, λ p. untrue (to p))
-
-pub limited-tests : (low high x : ℤ) → Tests (limited kinds.Range low high x) kinds.Range x (IsWithin low high x)
-unfolding limited
-limited-tests low high x = cond_tests (is_within low high x) x kinds.Range (IsWithin low high x) (within_from low high x) (within_to low high x)
 
 pub at_least-tests : (low x : ℤ) → Tests (at_least low x) kinds.Range x (low ≤ℤ x)
 unfolding at_least
@@ -51,17 +37,6 @@ member_below-tests members x = cond_tests (int_lt x (pos members)) (unsigned_abs
 pub few-tests : (x : ℤ) → Tests (few x) kinds.Full (unsigned_abs x) (x ≤ℤ pos most_members)
 unfolding few
 few-tests x = cond_tests (int_le x (pos most_members)) (unsigned_abs x) kinds.Full (x ≤ℤ pos most_members) (le_from x (pos most_members)) (le_to x (pos most_members))
-
-pub below_limit-tests : (limit : ℕ) (x : ℤ) → Tests (below_limit kinds.Range limit x) kinds.Range (unsigned_abs x) ((pos 0 ≤ℤ x) × (x <ℤ pos limit))
-unfolding below_limit
-below_limit-tests limit x =
-    cond_tests (int_le (pos 0) x && int_lt x (pos limit)) (unsigned_abs x) kinds.Range ((pos 0 ≤ℤ x) × (x <ℤ pos limit))
-    (λ e. let p = and_true (int_le (pos 0) x) (int_lt x (pos limit)) e in (le_from (pos 0) x p.0, lt_from x (pos limit) p.1))
-    (λ p. true_and (int_le (pos 0) x) (int_lt x (pos limit)) (le_to (pos 0) x p.0) (lt_to x (pos limit) p.1))
-
-pub each_within-tests : (low high : ℤ) (xs : List ℤ) → Tests (each_within kinds.Range low high xs) kinds.Range tt (AllByRecursion (IsWithin low high) xs)
-unfolding each_within
-each_within-tests low high xs = cond_tests (list_all (is_within low high) xs) tt kinds.Range (AllByRecursion (IsWithin low high) xs) (each_from low high xs) (each_to low high xs)
 
 pub sums_to_mix-tests : (ws : List ℤ) → Tests (sums_to_mix ws) kinds.Total tt (sum_of ws ≡ pos mix_total)
 unfolding sums_to_mix

@@ -6,6 +6,7 @@ use Rattle.std.proofs.lemmas.Int.{ints}
 use Rattle.text_words.specs.Lines.{Line}
 use Rattle.text_words.specs.Forms.{◌>>=◌, number_at, limited, below_limit, each_within}
 use Rattle.text_words.proofs.Limits.{pos_abs}
+use Rattle.text_words.proofs.Chains.{Tests, limited-tests, below_limit-tests, each_within-tests}
 use Rattle.game_model.specs.Branches.{Branch, mix_total}
 use Rattle.game_model.specs.Game.{GameData, IsGame, span}
 use Rattle.point_set.specs.Points.{most_share}
@@ -17,7 +18,7 @@ use Rattle.cert_text.specs.Entries.{Entry, Version, Outcome, Gap, Lower, Upper, 
 use Rattle.cert_text.specs.Forms.{at_least, is_due, member_below, few, later_branch, sums_to_mix, most_belief, belief_total, none_lacks, fits_lack}
 use Rattle.cert_text.specs.Due.{Form, VersionLine, OutcomeLine, GapLine, LowerLine, UpperLine, TailLine, SizesLine, StartLine, FirstNodeLine, NodeLine, VectorLine, MixLine, NextLine, FirstPointLine, PointLine, BeliefLine, ValueLine, StateLine, SplitLine, EndLine, nodes_in, points_in, next_in, total_in, branch_in, entry_in}
 use Rattle.cert_text.specs.Rules.{IsBranchWithin, HasPlace, Rule}
-use Rattle.cert_text.proofs.RuleTests.{Tests, limited-tests, at_least-tests, is_due-tests, member_below-tests, few-tests, below_limit-tests, each_within-tests, sums_to_mix-tests, belief_total-tests, none_lacks-tests, fits_lack-tests, later-tests}
+use Rattle.cert_text.proofs.RuleTests.{at_least-tests, is_due-tests, member_below-tests, few-tests, sums_to_mix-tests, belief_total-tests, none_lacks-tests, fits_lack-tests, later-tests}
 use Rattle.cert_text.proofs.Seen.{latest_in, lacking_in, Kept, reached_from, reached_to, earlier_from, earlier_to, room_from, room_to}
 
 -- a kind that the numbers of a line have
@@ -125,8 +126,8 @@ pub gap_checked : (g : GameData) (before : List Entry) (words : Line) (f : Fract
     → Checked g before GapLine words (both f) (limited kinds.Range (pos 0) (pos (2 ^ 40)) f.num >>= (λ num. limited kinds.Range (pos 1) (pos (2 ^ 20)) f.den >>= (λ den. Ok (Gap (record { num = num; den = den })))))
 gap_checked g before words f =
     let ns = both f in
-    chain g before GapLine words ns _ (limited-tests (pos 0) (pos (2 ^ 40)) f.num)
-    (λ num. chain g before GapLine words ns _ (limited-tests (pos 1) (pos (2 ^ 20)) f.den)
+    chain g before GapLine words ns _ (limited-tests kinds.Range (pos 0) (pos (2 ^ 40)) f.num)
+    (λ num. chain g before GapLine words ns _ (limited-tests kinds.Range (pos 1) (pos (2 ^ 20)) f.den)
     (λ den. (refl, all_kept g before GapLine ns (num, den) tt tt tt tt))
     (λ n. fails_range g before GapLine ns (λ r. n r.1)))
     (λ n. fails_range g before GapLine ns (λ r. n r.0))
@@ -200,12 +201,12 @@ node_checked g before words ns game k =
 pub vector_checked : (g : GameData) (before : List Entry) (words : Line) (ns : List ℤ)
     → Checked g before VectorLine words ns (each_within kinds.Range (neg_ℤ (pos (span g))) (pos (span g)) ns >>= (λ u. Ok (Vector ns)))
 vector_checked g before words ns =
-    chain g before VectorLine words ns _ (each_within-tests (neg_ℤ (pos (span g))) (pos (span g)) ns) (λ h. (refl, all_kept g before VectorLine ns h tt tt tt tt)) (λ n. fails_range g before VectorLine ns n)
+    chain g before VectorLine words ns _ (each_within-tests kinds.Range (neg_ℤ (pos (span g))) (pos (span g)) ns) (λ h. (refl, all_kept g before VectorLine ns h tt tt tt tt)) (λ n. fails_range g before VectorLine ns n)
 
 pub mix_checked : (g : GameData) (before : List Entry) (words : Line) (ns : List ℤ)
     → Checked g before MixLine words ns (each_within kinds.Range (pos 0) (pos mix_total) ns >>= (λ u. sums_to_mix ns >>= (λ v. Ok (Mix ns))))
 mix_checked g before words ns =
-    chain g before MixLine words ns _ (each_within-tests (pos 0) (pos mix_total) ns)
+    chain g before MixLine words ns _ (each_within-tests kinds.Range (pos 0) (pos mix_total) ns)
     (λ h. chain g before MixLine words ns _ (sums_to_mix-tests ns)
     (λ s. (refl, all_kept g before MixLine ns h tt tt s tt))
     (λ n. fails_total g before MixLine ns n h tt tt))
@@ -234,10 +235,10 @@ pub next_checked : (g : GameData) (before : List Entry) (words : Line) (ns : Lis
 next_checked g before words ns game k =
     let b = branch_in ns in
     let h : Branch → Result Entry CertKind = next_steps g before in
-    chain_in g before NextLine words ns _ h (below_limit-tests g.shape.own_actions (number_at ns 0))
-    (λ own. chain_in g before NextLine words ns _ h (below_limit-tests g.shape.observations (number_at ns 1))
+    chain_in g before NextLine words ns _ h (below_limit-tests kinds.Range g.shape.own_actions (number_at ns 0))
+    (λ own. chain_in g before NextLine words ns _ h (below_limit-tests kinds.Range g.shape.observations (number_at ns 1))
     (λ seen. chain_in g before NextLine words ns _ h (at_least-tests (pos 0) (number_at ns 2))
-    (λ low. chain_in g before NextLine words ns _ h (limited-tests (pos 1) (pos mix_total) (number_at ns 3))
+    (λ low. chain_in g before NextLine words ns _ h (limited-tests kinds.Range (pos 1) (pos mix_total) (number_at ns 3))
     (λ weight.
     (let range : IsBranchWithin g (pos mix_total) ns = record { own = own; seen = seen; member = low; weight = weight } in
     chain_in g before NextLine words ns _ h (later-tests before b.own b.seen (number_at ns 2) b.weight low)
@@ -280,7 +281,7 @@ point_checked g before words ns =
 pub belief_checked : (g : GameData) (before : List Entry) (words : Line) (ns : List ℤ)
     → Checked g before BeliefLine words ns (each_within kinds.Range (pos 0) (pos most_belief) ns >>= (λ u. belief_total ns >>= (λ v. Ok (Belief ns))))
 belief_checked g before words ns =
-    chain g before BeliefLine words ns _ (each_within-tests (pos 0) (pos most_belief) ns)
+    chain g before BeliefLine words ns _ (each_within-tests kinds.Range (pos 0) (pos most_belief) ns)
     (λ h. chain g before BeliefLine words ns _ (belief_total-tests ns)
     (λ s. (refl, all_kept g before BeliefLine ns h tt tt s tt))
     (λ n. fails_total g before BeliefLine ns n h tt tt))
@@ -289,14 +290,14 @@ belief_checked g before words ns =
 pub value_checked : (g : GameData) (before : List Entry) (words : Line) (ns : List ℤ)
     → Checked g before ValueLine words ns (limited kinds.Range (neg_ℤ (pos (span g) *ℤ total_in before)) (pos (span g) *ℤ total_in before) (number_at ns 0) >>= (λ value. Ok (Value value)))
 value_checked g before words ns =
-    chain g before ValueLine words ns _ (limited-tests (neg_ℤ (pos (span g) *ℤ total_in before)) (pos (span g) *ℤ total_in before) (number_at ns 0))
+    chain g before ValueLine words ns _ (limited-tests kinds.Range (neg_ℤ (pos (span g) *ℤ total_in before)) (pos (span g) *ℤ total_in before) (number_at ns 0))
     (λ h. (refl, all_kept g before ValueLine ns h tt tt tt tt)) (λ n. fails_range g before ValueLine ns n)
 
 pub state_checked : (g : GameData) (before : List Entry) (words : Line) (ns : List ℤ) (state : ℕ) → (Rule g before StateLine kinds.Order ns → number_at ns 0 ≡ pos state) → (number_at ns 0 ≡ pos state → Rule g before StateLine kinds.Order ns)
     → Checked g before StateLine words ns
     (each_within kinds.Range (pos 0) (pos mix_total) (drop 1 ns) >>= (λ u. is_due state (number_at ns 0) >>= (λ v. sums_to_mix (drop 1 ns) >>= (λ w. Ok (Mixes state (drop 1 ns))))))
 state_checked g before words ns state from to =
-    chain g before StateLine words ns _ (each_within-tests (pos 0) (pos mix_total) (drop 1 ns))
+    chain g before StateLine words ns _ (each_within-tests kinds.Range (pos 0) (pos mix_total) (drop 1 ns))
     (λ h. chain g before StateLine words ns _ (is_due-tests state (number_at ns 0))
     (λ e. chain g before StateLine words ns _ (sums_to_mix-tests (drop 1 ns))
     (λ s. (ap (λ (i : ℕ). Mixes i (drop 1 ns)) (abs_is (number_at ns 0) state e), all_kept g before StateLine ns h (to e) tt s tt))
@@ -309,10 +310,10 @@ pub split_checked : (g : GameData) (before : List Entry) (words : Line) (ns : Li
 split_checked g before words ns =
     let b = branch_in ns in
     let h : Branch → Result Entry CertKind = split_steps in
-    chain_in g before SplitLine words ns _ h (below_limit-tests g.shape.own_actions (number_at ns 0))
-    (λ own. chain_in g before SplitLine words ns _ h (below_limit-tests g.shape.observations (number_at ns 1))
+    chain_in g before SplitLine words ns _ h (below_limit-tests kinds.Range g.shape.own_actions (number_at ns 0))
+    (λ own. chain_in g before SplitLine words ns _ h (below_limit-tests kinds.Range g.shape.observations (number_at ns 1))
     (λ seen. chain_in g before SplitLine words ns _ h (at_least-tests (pos 0) (number_at ns 2))
-    (λ low. chain_in g before SplitLine words ns _ h (limited-tests (pos 1) most_share (number_at ns 3))
+    (λ low. chain_in g before SplitLine words ns _ h (limited-tests kinds.Range (pos 1) most_share (number_at ns 3))
     (λ weight.
     (let range : IsBranchWithin g most_share ns = record { own = own; seen = seen; member = low; weight = weight } in
     chain_in g before SplitLine words ns _ h (later-tests before b.own b.seen (number_at ns 2) b.weight low)
