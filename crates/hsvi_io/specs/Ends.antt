@@ -1,6 +1,12 @@
--- What is known of the ends that stand in memory.
+-- What is known of each kind of source and sink.
 use Rattle.std.specs.Prelude.{ℕ, ◌+◌, List, ◌++◌, length, nat_le, if◌then◌else◌, Some, None}
 use Rattle.std.specs.declared.option.Option.{Option}
+
+-- A source over a reader, or a sink over a writer: the bytes that the reader has left or the writer holds, where
+-- those are known, and how many calls failed.
+pub record Adapter : Type 0 where
+  pub known : Option (List ℕ)
+  pub faults : ℕ
 
 -- A source in memory: the bytes that are left, the most that one call gives, the numbers of the calls that fail,
 -- how many calls were made, and how many of them failed.

@@ -1,6 +1,9 @@
-pub mod Choice
-pub mod Seeded
-pub mod Once
-pub mod Due
+pub mod Answered
 pub mod Bounds
+pub mod Choice
+pub mod Due
+pub mod FixedAction
 pub mod Places
+pub mod Seeded
+pub mod Shared
+pub mod Verdicts

@@ -3,6 +3,10 @@ use Rattle.std.specs.Prelude.{ℕ, ◌<◌, ◌≡◌, ℤ, pos, ◌*ℤ◌, ◌
 use Rattle.game_model.specs.Game.{GameData, first_at, numbers, span, unit}
 use Rattle.game_model.specs.Seeds.{FixedActionEarns, IsSeed}
 use Rattle.game_model.specs.Numbers.{product}
+use Rattle.game_text.specs.Text.{IsTextOf}
+use Rattle.osposg_cli.specs.declared.status.Status.{Status}
+use Rattle.osposg_cli.specs.declared.status.Status.TheVariants.{Done}
+use Rattle.osposg_cli.specs.Inputs.{AnswersGame}
 use Rattle.scaled_num.specs.Printed.{fraction_text}
 use Rattle.scaled_num.specs.Sums.{sum_of}
 
@@ -27,6 +31,23 @@ floor_lines action lower tail = codes "action " ++ (decimal action ++ (codes "\n
 abbrev pub floor_text : GameData → ℕ → ℤ → List ℕ
 floor_text g a lower = floor_lines a (fraction_text lower (sum_of g.first *ℤ pos unit)) (fraction_text (pos (span g)) (pos unit))
 
+-- the answer to a game
+abbrev pub IsBound : GameData → Status → List ℕ → Type 0
+IsBound g status text = (a : ℕ) × (lower : ℤ) × IsFloor g a lower × (status ≡ Done) × (text ≡ floor_text g a lower)
+
+-- the answer of `floor` to an input
+abbrev pub AnswersFloor : List ℕ → Status → List ℕ → Type 0
+AnswersFloor input status text = AnswersGame IsBound input status text
+
 -- always playing the action earns the bound less the tail, against every plan of the informed player
 abbrev pub FloorEarns : GameData → ℕ → ℤ → Type 0
 FloorEarns g a lower = FixedActionEarns (numbers g) (first_at g) (span g) a lower
+
+-- What the text of `floor` promises of the game that the input spells: it is of an own action that earns the printed bound.
+abbrev pub FloorPromises : List ℕ → List ℕ → Type 0
+FloorPromises input text =
+    (g : GameData) → IsTextOf g input [] → (a : ℕ) × (lower : ℤ) × (text ≡ floor_text g a lower) × (a < g.shape.own_actions) × FloorEarns g a lower
+
+-- an answer keeps this promise
+abbrev pub KeepsFloor : Type 0
+KeepsFloor = (input text : List ℕ) → AnswersFloor input Done text → FloorPromises input text

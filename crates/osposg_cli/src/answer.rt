@@ -1,3 +1,4 @@
+//! What a command answers.
 use crate::status::Status;
 
 /// A status with the text that is to be written.
@@ -8,3 +9,6 @@ pub struct Answer {
     /// The whole text.
     pub text: Vec<u8>,
 }
+
+/// A part of the input as the value that it spells, or the answer that refuses it.
+pub type Given<T> = Result<T, Answer>;

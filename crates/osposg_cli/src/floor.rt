@@ -1,28 +1,65 @@
+//! The command `floor`: the guaranteed bound of always playing one action.
 ghost use Rattle.game_model.specs.Game.{IsGame, first_at, numbers, span};
 ghost use Rattle.game_model.specs.Numbers.{product};
 ghost use Rattle.game_model.specs.Seeds.{IsSeed};
-ghost use Rattle.osposg_cli.specs.Floor.{IsFloor, IsSeedProduct, floor_lines, floor_text};
+ghost use Rattle.osposg_cli.specs.Defined.{IsDefined};
+ghost use Rattle.osposg_cli.specs.Floor.{AnswersFloor, IsBound, IsFloor, IsSeedProduct, KeepsFloor, floor_lines, floor_text};
+ghost use Rattle.osposg_cli.specs.Inputs.{most_input};
 ghost use Rattle.scaled_num.specs.Sums.{below, total};
 ghost use Rattle.std.specs.List.{AllByRecursion};
 ghost use Rattle.std.specs.Prelude.{IfOk, ℕ, ℤ, length, pos, slice_index_or, unsigned_abs, ◌*ℤ◌, ◌<ℤ◌, ◌<◌, ◌^◌, ◌≡◌, ◌≤◌};
 ghost use Rattle.std.specs.String.{string_bytes};
 ghost use Rattle.scaled_num.specs.Printed.{fraction_text};
 
+use crate::answer::Answer;
+use crate::inputs::{game_alone, law_texts};
+use crate::status::Status;
 use game_model::{Game, MOST_STATES, UNITS, law_game, law_seeds};
 use scaled_num::Fraction;
 use std::alloc::{AllocError, Global};
 
+/// The answer of `floor` to a game text.
+pub fn work(alloc: Global, bytes: &[u8]) -> Result<Answer, AllocError>
+    requires { length bytes.now ≤ most_input }
+    ensures { IfOk result (λ answer. AnswersFloor bytes.now answer.status answer.text.items) }
+{
+    match game_alone(alloc, bytes)? {
+        Ok(game) => bound(alloc, &game),
+        Err(refusal) => Ok(refusal),
+    }
+}
+
+/// A law: the answer of `floor` is defined, and keeps its promise.
+pub fn law_floor()
+    ensures defined { IsDefined AnswersFloor }
+    ensures keeps { KeepsFloor }
+{
+    law_texts();
+    law_seeds();
+}
+
+/// The bound of the best action, as an answer.
+fn bound(alloc: Global, game: &Game) -> Result<Answer, AllocError>
+    ensures { IfOk result (λ answer. IsBound game.now answer.status answer.text.items) }
+{
+    let floor = best_action(game);
+    Ok(Answer {
+        status: Status::Done,
+        text: floor_text(alloc, game, &floor)?,
+    })
+}
+
 /// The guaranteed bound of one fixed action.
 #[derive(Clone, Copy, Debug, PartialEq, Eq)]
-pub struct Floor {
+struct Floor {
     /// The own action that is always played.
-    pub action: u32,
+    action: u32,
     /// The product of its seed vector with the first belief: the bound in units, times the belief's total.
-    pub lower: i128,
+    lower: i128,
 }
 
 /// The first own action whose seed vector has the greatest product with the first belief.
-pub fn best_action(game: &Game) -> Floor
+fn best_action(game: &Game) -> Floor
     ensures { IsFloor game.now result.action result.lower }
 {
     law_game(game);
@@ -53,7 +90,7 @@ fn seed_product(game: &Game, action: u32) -> i128
 }
 
 /// What `floor` writes.
-pub fn floor_text(alloc: Global, game: &Game, floor: &Floor) -> Result<Vec<u8>, AllocError>
+fn floor_text(alloc: Global, game: &Game, floor: &Floor) -> Result<Vec<u8>, AllocError>
     ensures { IfOk result (λ text. text.items ≡ floor_text game.now floor.now.action floor.now.lower) }
 {
     law_game(game);

@@ -3,14 +3,15 @@
 #![tactic(auto)]
 
 mod answer;
+mod check;
 mod command;
 mod floor;
+mod inputs;
+mod refusals;
 mod status;
 #[cfg(test)]
 mod tests;
-mod verdict;
 mod words;
-mod work;
 
 pub use command::run;
 use hsvi_io::{StdSink, StdSource};

@@ -1,3 +1,4 @@
+//! How a run ends.
 ghost use Rattle.osposg_cli.specs.Codes.{code_of};
 ghost use Rattle.std.specs.Prelude.{◌≡◌};
 

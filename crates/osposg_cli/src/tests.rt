@@ -1,3 +1,4 @@
+//! Worked runs of the whole program, over sources and sinks in memory.
 use crate::{Status, run};
 use hsvi_io::{MemSink, MemSource, SureSink, SureSource};
 use std::alloc::Global;
@@ -183,12 +184,51 @@ fn other_words_are_refused_and_nothing_is_read(rt: HostRuntime) -> Result<(), Fa
         &["--"],
         &["Floor"],
         &["floor", "floor"],
+        &["solve", "--"],
         &["solve", "--trials", "10001"],
     ] {
-        assert!(rt;
-            answered(alloc, command, b"", "words refused\n")? == (Status::WordsRefused, true)
-        );
+        let words = words(alloc, command)?;
+        let mut unreadable = MemSource::new(alloc, b"", 1, &[0])?;
+        let mut sink = MemSink::new(alloc, 1024, 1024, &[])?;
+        let status = run(alloc, &words, &mut unreadable, &mut sink);
+        assert!(rt; status == Status::WordsRefused);
+        assert!(rt; sink.written() == b"words refused\n".as_slice());
     }
+    Ok(())
+}
+
+/// A game of full size in which each stage gives 5 and nothing comes after it. Each row has a landing for each
+/// observation and next state.
+fn great_text(alloc: Global) -> Result<String, Fail> {
+    let mut row = String::new(alloc);
+    for o in 0..8 {
+        for t in 0..16 {
+            row.push_str(&format!(in alloc; "out {o} {t} 100000\n")?)?;
+        }
+    }
+    let mut text = String::from_str(
+        alloc,
+        "osposg 1\nsize 16 6 6 8\ntotal 12800000\ndiscount 0 1\nfirst 1 1 1 1 1 1 1 1 1 1 1 1 1 1 1 1\n",
+    )?;
+    for s in 0..16 {
+        for a in 0..6 {
+            for c in 0..6 {
+                text.push_str(&format!(in alloc; "step {s} {a} {c} 5\n")?)?;
+                text.push_str(&row)?;
+            }
+        }
+    }
+    text.push_str("end\n")?;
+    Ok(text)
+}
+
+#[test]
+fn a_game_text_of_a_million_bytes_is_answered(rt: HostRuntime) -> Result<(), Fail> {
+    let alloc = rt.alloc();
+    let text = great_text(alloc)?;
+    assert!(rt; text.len() > 1_000_000);
+    let bound = "action 0\nlower 5242880/1048576\ntail 327680/65536\n";
+    assert!(rt; answered(alloc, &["floor"], text.as_bytes(), bound)? == (Status::Done, true));
     Ok(())
 }
 

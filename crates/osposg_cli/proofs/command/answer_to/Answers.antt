@@ -12,5 +12,5 @@ returns-in_default-clause-due g c =
 pub returns-in-Ok-clause-due : goal.returns-in-Ok-clause-due
 returns-in-Ok-clause-due g c =
     kept c.work.result c.map_err-in-Ok.result _ _ c.map_err-in-Ok.ensures.cases
-    (IfOk-weaker c.work.result _ _ (λ answer h. due_work _ _ _ _ c.in-Ok.bytes.items answer.status answer.text.items (sym c.parse.ensures ∙ c.in-Some.is) c.in-Ok.ensures.whole c.in-Ok.ensures.within
+    (IfOk-weaker c.work.result _ _ (λ answer h. due_work c.law_answers.ensures.work _ _ _ _ c.in-Ok.bytes.items answer.status answer.text.items (sym c.parse.ensures ∙ c.in-Some.is) c.in-Ok.ensures.whole c.in-Ok.ensures.within
     (subst (λ (input : List ℕ). IsWork c.in-Some.command input answer.status answer.text.items) c.deref.ensures.value h)) c.work.ensures)

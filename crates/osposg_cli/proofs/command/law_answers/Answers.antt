@@ -1,19 +1,8 @@
-use Rattle.osposg_cli.proofs.Once.{answers-once}
+use Rattle.osposg_cli.proofs.Answered.{answers-once, work-defined}
 use Rattle.osposg_cli.proofs.command.law_answers.Goals as goal
 
-pub returns : goal.returns
-returns c = answers-once (record {
-  seeds = c.law_seeds.ensures.one;
-  games = c.law_games.ensures;
-  refused = c.law_refused_once.ensures;
-  not = c.law_not_refused.ensures;
-  whole = c.law_whole_not_refused.ensures;
-  cert = record {
-    once = c.law_once.ensures.once;
-    falls = c.law_once.ensures.falls;
-    one = c.law_one.ensures;
-    refused = c.law_refused_once-2.ensures;
-    read = c.law_read.ensures;
-    accepted = c.law_not_refused-2.ensures;
-  };
-})
+pub returns-clause-work : goal.returns-clause-work
+returns-clause-work c = work-defined c.law_floor.ensures.defined c.law_check.ensures.defined
+
+pub returns-clause-one : goal.returns-clause-one
+returns-clause-one c = answers-once (work-defined c.law_floor.ensures.defined c.law_check.ensures.defined)

@@ -1,5 +1,8 @@
 use Rattle.std.proofs.Common.{rules}
-use Rattle.osposg_cli.proofs.Due.{complete_early, complete_whole, earns_whole, ends_whole, proves_whole, read_end}
+use Rattle.osposg_cli.proofs.Due.{complete_early, complete_whole, ends_whole, promised, read_end}
+use Rattle.osposg_cli.specs.declared.words.Command.TheVariants.{Check, Floor}
+use Rattle.osposg_cli.specs.Check.{CheckPromises}
+use Rattle.osposg_cli.specs.Floor.{FloorPromises}
 use Rattle.osposg_cli.proofs.command.run.Goals as goal
 
 pub returns-in-Ok-write_all-clause-ends : goal.returns-in-Ok-write_all-clause-ends
@@ -7,17 +10,17 @@ returns-in-Ok-write_all-clause-ends g c = ends_whole _ _ _ _ _ _ _ _ c.in-Ok.ens
 
 pub returns-in-Ok-write_all-clause-complete : goal.returns-in-Ok-write_all-clause-complete
 returns-in-Ok-write_all-clause-complete g c bytes status text e answers calm still =
-    complete_whole c.law_answers.ensures _ _ _ _ _ bytes _ status _ text e c.in-Ok.ensures.due (search rules) answers
-
-pub returns-in-Ok-write_all-clause-floor_earns : goal.returns-in-Ok-write_all-clause-floor_earns
-returns-in-Ok-write_all-clause-floor_earns g c = earns_whole c.law_seeds.ensures.earn c.law_games.ensures _ _ _ _ _ _ _ c.in-Ok.ensures.due (search rules)
+    complete_whole c.law_answers.ensures.one _ _ _ _ _ bytes _ status _ text e c.in-Ok.ensures.due (search rules) answers
 
 pub returns-clause-complete : goal.returns-clause-complete
 returns-clause-complete g c bytes status text e answers calm still =
     complete_early _ _ _ _ _ bytes _ status text e c.in-Err.ensures.early (search rules) answers
 
-pub returns-in-Ok-write_all-clause-check_proves : goal.returns-in-Ok-write_all-clause-check_proves
-returns-in-Ok-write_all-clause-check_proves g c = proves_whole c.law_controllers.ensures c.law_splittings.ensures _ _ _ _ _ _ _ c.in-Ok.ensures.due (search rules)
-
 pub returns-in-Ok-write_all-clause-read : goal.returns-in-Ok-write_all-clause-read
 returns-in-Ok-write_all-clause-read g c = λ one. c.in-Ok.ensures.read (read_end _ _ _ _ c.in-Ok.ensures.due one)
+
+pub returns-in-Ok-write_all-clause-floor_earns : goal.returns-in-Ok-write_all-clause-floor_earns
+returns-in-Ok-write_all-clause-floor_earns g c = promised FloorPromises Floor c.law_floor.ensures.keeps _ _ _ _ _ _ _ c.in-Ok.ensures.due (search rules)
+
+pub returns-in-Ok-write_all-clause-check_proves : goal.returns-in-Ok-write_all-clause-check_proves
+returns-in-Ok-write_all-clause-check_proves g c = promised CheckPromises Check c.law_check.ensures.keeps _ _ _ _ _ _ _ c.in-Ok.ensures.due (search rules)

@@ -1,6 +1,6 @@
 use Rattle.controller.specs.Data.{certificate_data}
 use Rattle.osposg_cli.proofs.Bounds.{lower-small, tail-small, upper-small}
-use Rattle.osposg_cli.proofs.verdict.yes_text.Goals as goal
+use Rattle.osposg_cli.proofs.check.yes_text.Goals as goal
 
 pub decimals_down-requires : goal.decimals_down-requires
 decimals_down-requires c = lower-small c.args.game.now (certificate_data c.args.certificate.now) c.law_game.ensures.accepted c.requires
