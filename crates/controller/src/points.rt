@@ -1,3 +1,5 @@
+//! Whether the points of a certificate fit a game and name points of the set.
+
 ghost use Rattle.game_model.specs.Branches.{AreBranches, AreRising, IsBranch, IsBranchBefore};
 ghost use Rattle.game_model.specs.Game.{IsWithin, numbers, span};
 ghost use Rattle.point_set.specs.Members.{branch_of, point_data};

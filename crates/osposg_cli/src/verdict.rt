@@ -1,6 +1,5 @@
 ghost use Rattle.cert_check.specs.Verdicts.{place_of};
 ghost use Rattle.controller.specs.Certificates.{CertificateStands};
-ghost use Rattle.controller.specs.Data.{certificate_data};
 ghost use Rattle.osposg_cli.specs.Check.{IsYesText, no_text, placed, yes_lines};
 ghost use Rattle.scaled_num.specs.Printed.{fraction_text};
 ghost use Rattle.std.specs.Prelude.{IfOk, ◌≡◌};
@@ -18,8 +17,8 @@ pub fn yes_text(
     game: &Game,
     certificate: &Certificate,
 ) -> Result<Vec<u8>, AllocError>
-    requires { CertificateStands game.now (certificate_data certificate.now) }
-    ensures { IfOk result (λ text. IsYesText (certificate_data certificate.now) text.items) }
+    requires { CertificateStands game.now certificate.now }
+    ensures { IfOk result (λ text. IsYesText certificate.now text.items) }
 {
     law_game(game);
     let down = decimals_down(alloc, &certificate.lower)?;

@@ -1,6 +1,5 @@
 ghost use Rattle.cert_text.specs.Fault.{number_of_kind as number_of_cert_kind};
 ghost use Rattle.controller.specs.Certificates.{CertificateFits};
-ghost use Rattle.controller.specs.Data.{certificate_data};
 ghost use Rattle.game_text.specs.Fault.{number_of_kind};
 ghost use Rattle.osposg_cli.specs.Answer.{IsWork, game_refused};
 ghost use Rattle.osposg_cli.specs.Check.{IsJudged, IsVerdict, cert_refused};
@@ -79,8 +78,8 @@ fn judge(alloc: Global, game: &Game, bytes: &[u8]) -> Result<Answer, AllocError>
 
 /// The verdict on a certificate.
 fn verdict(alloc: Global, game: &Game, certificate: &Certificate) -> Result<Answer, AllocError>
-    requires { CertificateFits game.now (certificate_data certificate.now) }
-    ensures { IfOk result (λ answer. IsVerdict game.now (certificate_data certificate.now) answer.status answer.text.items) }
+    requires { CertificateFits game.now certificate.now }
+    ensures { IfOk result (λ answer. IsVerdict game.now certificate.now answer.status answer.text.items) }
 {
     match check(game, certificate) {
         Verdict::Yes => Ok(Answer {
