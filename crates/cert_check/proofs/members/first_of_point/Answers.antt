@@ -20,13 +20,13 @@ returns-then-not-is_corner-clause-first c =
 pub stands-requires-clause-fits : goal.stands-requires-clause-fits
 stands-requires-clause-fits c =
     let k : CertificateData = c.args.certificate.now in
-    let same : c.certificate.inside.points ≡ k.points = ap (λ (k : CertificateData). k.points) c.certificate.view_is in
+    let same : c.certificate.inside.points.members ≡ k.points = ap (λ (k : CertificateData). k.points) c.certificate.view_is in
     rw same (points-in-sets c.args.game.now k c.requires.fits)
 
 pub stands-requires-clause-named : goal.stands-requires-clause-named
 stands-requires-clause-named c =
     let k : CertificateData = c.args.certificate.now in
-    let same : c.certificate.inside.points ≡ k.points = ap (λ (k : CertificateData). k.points) c.certificate.view_is in
+    let same : c.certificate.inside.points.members ≡ k.points = ap (λ (k : CertificateData). k.points) c.certificate.view_is in
     rw same (shares-named c.args.game.now k c.requires.fits c.args.j c.requires.member)
 
 pub returns-in-None-clause-none : goal.returns-in-None-clause-none
@@ -38,7 +38,7 @@ returns-in-None-clause-none c = λ none.
       | else-j-states-via-then-j-states+else-not-is_corner w ↦ w.is_corner.ensures.0 w.if-not-is_corner.false
       | else-j-states-via-else-j-states w ↦ absurd (omega (arith, w.if-j-states.false, c.states.ensures))
     ]) in
-    let same : c.certificate.inside.points ≡ k.points = ap (λ (k : CertificateData). k.points) c.certificate.view_is in
+    let same : c.certificate.inside.points.members ≡ k.points = ap (λ (k : CertificateData). k.points) c.certificate.view_is in
     let stand = rw same at c.in-None.ensures.none in
     each-append (Holds g k) (corner_places g c.args.j) (split_places g c.args.j ++ value_places g c.args.j) corner (point-stands g k c.args.j (stand.0 refl))
 
@@ -51,7 +51,7 @@ returns-in-Some-Split-clause-first c =
       | else-j-states-via-then-j-states+else-not-is_corner w ↦ w.is_corner.ensures.0 w.if-not-is_corner.false
       | else-j-states-via-else-j-states w ↦ absurd (omega (arith, w.if-j-states.false, c.states.ensures))
     ]) in
-    let same : c.certificate.inside.points ≡ k.points = ap (λ (k : CertificateData). k.points) c.certificate.view_is in
+    let same : c.certificate.inside.points.members ≡ k.points = ap (λ (k : CertificateData). k.points) c.certificate.view_is in
     let h = rw (c.in-Some-Split.field-0-is, same) at c.in-Some-Split.ensures.first in
     first-right (Holds g k) (corner_places g c.args.j) (split_places g c.args.j ++ value_places g c.args.j) _ corner (split-fails g k c.args.j c.in-Some-Split.a c.in-Some-Split.o c.in-Some-Split.s h)
 
@@ -64,6 +64,6 @@ returns-in-Some-Value-clause-first c =
       | else-j-states-via-then-j-states+else-not-is_corner w ↦ w.is_corner.ensures.0 w.if-not-is_corner.false
       | else-j-states-via-else-j-states w ↦ absurd (omega (arith, w.if-j-states.false, c.states.ensures))
     ]) in
-    let same : c.certificate.inside.points ≡ k.points = ap (λ (k : CertificateData). k.points) c.certificate.view_is in
+    let same : c.certificate.inside.points.members ≡ k.points = ap (λ (k : CertificateData). k.points) c.certificate.view_is in
     let h = rw (c.in-Some-Value.field-0-is, same) at c.in-Some-Value.ensures.first in
     first-right (Holds g k) (corner_places g c.args.j) (split_places g c.args.j ++ value_places g c.args.j) _ corner (value-fails g k c.args.j c.in-Some-Value.a h)

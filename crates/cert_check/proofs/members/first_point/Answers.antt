@@ -10,7 +10,7 @@ pub returns-in-Some-clause-first : goal.returns-in-Some-clause-first
 returns-in-Some-clause-first c =
     let k : CertificateData = c.args.certificate.now in
     let g : GameData = c.args.game.now in
-    let same : c.certificate.inside.points ≡ k.points = ap (λ (k : CertificateData). k.points) c.certificate.view_is in
+    let same : c.certificate.inside.points.members ≡ k.points = ap (λ (k : CertificateData). k.points) c.certificate.view_is in
     let inside : c.loop-j.j < length k.points = omega (arith, ap length same, c.len-j-end.ensures.count) in
     first-flat (Holds g k) (point_places g) (length k.points) c.loop-j.j (place_of c.in-Some.reason) inside c.loop-j.invariant c.in-Some.ensures.first
 
@@ -24,5 +24,5 @@ pub returns-clause-none : goal.returns-clause-none
 returns-clause-none c = λ none.
     let k : CertificateData = c.args.certificate.now in
     let g : GameData = c.args.game.now in
-    let same : c.certificate.inside.points ≡ k.points = ap (λ (k : CertificateData). k.points) c.certificate.view_is in
+    let same : c.certificate.inside.points.members ≡ k.points = ap (λ (k : CertificateData). k.points) c.certificate.view_is in
     all-flat (Holds g k) (point_places g) (length k.points) (λ m lm. c.loop-j.invariant m (omega (arith, ap length same, c.len-j-end.ensures.count)))
