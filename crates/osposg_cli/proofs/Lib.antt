@@ -1,5 +1,4 @@
 pub mod Choice
-pub mod Seeded
 pub mod Once
 pub mod Due
 pub mod Bounds

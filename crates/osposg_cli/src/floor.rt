@@ -8,7 +8,7 @@ ghost use Rattle.std.specs.Prelude.{IfOk, ℕ, ℤ, length, pos, slice_index_or,
 ghost use Rattle.std.specs.String.{string_bytes};
 ghost use Rattle.scaled_num.specs.Printed.{fraction_text};
 
-use game_model::{Game, MOST_STATES, UNITS, law_game, law_seeds};
+use game_model::{Game, MOST_STATES, UNITS, law_game};
 use scaled_num::Fraction;
 use std::alloc::{AllocError, Global};
 
@@ -44,8 +44,6 @@ fn seed_product(game: &Game, action: u32) -> i128
     requires { action < game.now.shape.own_actions }
     ensures { IsSeedProduct game.now action result }
 {
-    law_game(game);
-    law_seeds();
     let mut entries = [0; MOST_STATES];
     let vector = &mut entries[..game.states() as usize];
     game.steady(action, vector);
