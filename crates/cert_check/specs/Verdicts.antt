@@ -2,7 +2,7 @@
 use Rattle.std.specs.Prelude.{List, ◌++◌, ◌∷◌, ◌≡◌}
 use Rattle.std.specs.List.{AllByRecursion}
 use Rattle.game_model.specs.Game.{GameData}
-use Rattle.controller.specs.Certificates.{BoundAt, CertificateData, CertificateStands, CornerAt, FailsFirst, NodeAt, OutcomeAt, Place, SplitAt, StartAt, ValueAt}
+use Rattle.controller.specs.Certificates.{BoundAt, CertificateData, CertificateStands, CornerAt, FailsFirst, Holds, NodeAt, OutcomeAt, Place, SplitAt, StartAt, ValueAt}
 use Rattle.cert_check.specs.declared.verdicts.Reason.{Reason}
 use Rattle.cert_check.specs.declared.verdicts.Reason.TheVariants.{Bound, Corner, Node, Outcome, Split, Start, Value}
 
@@ -23,6 +23,14 @@ pub record FirstIn {X : Type 0} (Holds : X → Type 0) (list : List X) (x : X) :
   pub order : list ≡ before ++ (x ∷ after)
   pub holds : AllByRecursion Holds before
   pub fails : ¬ (Holds x)
+
+-- of a certificate the rule of each of these places holds
+abbrev pub AllHold : GameData → CertificateData → List Place → Type 0
+AllHold g k places = AllByRecursion (Holds g k) places
+
+-- of a certificate the rule fails first, among these places, at that of a reason
+abbrev pub FailsAmong : GameData → CertificateData → List Place → Reason → Type 0
+FailsAmong g k places reason = FirstIn (Holds g k) places (place_of reason)
 
 -- a certificate fails first at one place only
 abbrev pub FailsOnce : Type 0

@@ -1,12 +1,12 @@
-ghost use Rattle.cert_check.specs.Verdicts.{FirstIn, place_of};
-ghost use Rattle.controller.specs.Certificates.{BoundAt, CertificateFits, Holds, IsFraction, IsWithinGap, OutcomeAt, StartAt, first_total, start_product};
-ghost use Rattle.controller.specs.Data.{certificate_data, fraction_data};
-ghost use Rattle.game_model.specs.Game.{IsWithin, unit};
+//! The last three tests of a certificate: its start, its bounds and its outcome.
+
+ghost use Rattle.cert_check.specs.Verdicts.{AllHold, FailsAmong};
+ghost use Rattle.controller.specs.Certificates.{BoundAt, CertificateFits, Holds, IsFraction, IsWithinGap, OutcomeAt, StartAt, end_places, first_total, start_product};
+ghost use Rattle.controller.specs.Data.{fraction_data};
+ghost use Rattle.game_model.specs.Game.{unit};
 ghost use Rattle.point_set.specs.Points.{points_of};
-ghost use Rattle.scaled_num.specs.Sums.{below, total};
 ghost use Rattle.std.specs.Bool.{IsTrue};
-ghost use Rattle.std.specs.List.{AllByRecursion};
-ghost use Rattle.std.specs.Prelude.{IfSome, IsNone, [], length, pos, slice_index_or, unsigned_abs, ◌*◌, ◌*ℤ◌, ◌^◌, ◌∷◌, ◌↔◌, ◌≡◌, ◌≤◌};
+ghost use Rattle.std.specs.Prelude.{IfSome, IsNone, pos, ◌*◌, ◌↔◌, ◌≡◌};
 
 use crate::verdicts::Reason;
 use controller::{Certificate, Outcome};
@@ -15,9 +15,9 @@ use scaled_num::Fraction;
 
 /// The first place at which the start, the bounds or the outcome fail.
 pub fn first_end(game: &Game, certificate: &Certificate) -> Option<Reason>
-    requires { CertificateFits game.now (certificate_data certificate.now) }
-    ensures none { IsNone result → AllByRecursion (Holds game.now (certificate_data certificate.now)) (StartAt ∷ BoundAt ∷ OutcomeAt ∷ []) }
-    ensures first { IfSome result (λ reason. FirstIn (Holds game.now (certificate_data certificate.now)) (StartAt ∷ BoundAt ∷ OutcomeAt ∷ []) (place_of reason)) }
+    requires { CertificateFits game.now certificate.now }
+    ensures none { IsNone result → AllHold game.now certificate.now end_places }
+    ensures first { IfSome result (FailsAmong game.now certificate.now end_places) }
 {
     if !starts_right(game, certificate) {
         return Some(Reason::Start);
@@ -33,8 +33,8 @@ pub fn first_end(game: &Game, certificate: &Certificate) -> Option<Reason>
 
 /// Whether the belief of the start point is the game's first belief.
 fn starts_right(game: &Game, certificate: &Certificate) -> bool
-    requires { CertificateFits game.now (certificate_data certificate.now) }
-    ensures { IsTrue result ↔ Holds game.now (certificate_data certificate.now) StartAt }
+    requires { CertificateFits game.now certificate.now }
+    ensures { IsTrue result ↔ Holds game.now certificate.now StartAt }
 {
     let start = certificate.points.point(certificate.start_point);
     are_same(start.belief.parts(), game.first())
@@ -49,8 +49,8 @@ fn are_same(weights: &[i128], others: &[i128]) -> bool
 
 /// Whether the bounds and the tail are those of the starts and the span.
 fn bounds_are(game: &Game, certificate: &Certificate) -> bool
-    requires { CertificateFits game.now (certificate_data certificate.now) }
-    ensures { IsTrue result ↔ Holds game.now (certificate_data certificate.now) BoundAt }
+    requires { CertificateFits game.now certificate.now }
+    ensures { IsTrue result ↔ Holds game.now certificate.now BoundAt }
 {
     let scale = bound_scale(game);
     if !is_fraction(&certificate.lower, start_worth(game, certificate), scale) {
@@ -72,8 +72,8 @@ fn bound_scale(game: &Game) -> i128
 
 /// The value of the start point.
 fn start_value(game: &Game, certificate: &Certificate) -> i128
-    requires { CertificateFits game.now (certificate_data certificate.now) }
-    ensures { result ≡ (points_of (certificate_data certificate.now).points certificate.now.start_point).value }
+    requires { CertificateFits game.now certificate.now }
+    ensures { result ≡ (points_of certificate.now.points certificate.now.start_point).value }
 {
     certificate.points.point(certificate.start_point).value
 }
@@ -87,8 +87,8 @@ fn is_fraction(fraction: &Fraction, num: i128, den: i128) -> bool
 
 /// The product of the start node's vector with the first belief.
 fn start_worth(game: &Game, certificate: &Certificate) -> i128
-    requires { CertificateFits game.now (certificate_data certificate.now) }
-    ensures { result ≡ start_product game.now (certificate_data certificate.now) }
+    requires { CertificateFits game.now certificate.now }
+    ensures { result ≡ start_product game.now certificate.now }
 {
     law_game(game);
     let start = certificate.nodes.node(certificate.start_node);
@@ -97,9 +97,9 @@ fn start_worth(game: &Game, certificate: &Certificate) -> i128
 
 /// Whether the outcome says whether the gap is within the tolerance.
 fn outcome_is(game: &Game, certificate: &Certificate) -> bool
-    requires fits { CertificateFits game.now (certificate_data certificate.now) }
-    requires bounds { Holds game.now (certificate_data certificate.now) BoundAt }
-    ensures { IsTrue result ↔ Holds game.now (certificate_data certificate.now) OutcomeAt }
+    requires fits { CertificateFits game.now certificate.now }
+    requires bounds { Holds game.now certificate.now BoundAt }
+    ensures { IsTrue result ↔ Holds game.now certificate.now OutcomeAt }
 {
     match certificate.outcome {
         Outcome::Closed => is_closed(game, certificate),
@@ -109,9 +109,9 @@ fn outcome_is(game: &Game, certificate: &Certificate) -> bool
 
 /// Whether upper less lower is at most the gap. Both bounds have the same denominator.
 fn is_closed(game: &Game, certificate: &Certificate) -> bool
-    requires fits { CertificateFits game.now (certificate_data certificate.now) }
-    requires bounds { Holds game.now (certificate_data certificate.now) BoundAt }
-    ensures { IsTrue result ↔ IsWithinGap (certificate_data certificate.now) }
+    requires fits { CertificateFits game.now certificate.now }
+    requires bounds { Holds game.now certificate.now BoundAt }
+    ensures { IsTrue result ↔ IsWithinGap certificate.now }
 {
     law_game(game);
     let gap = &certificate.gap;

@@ -1,8 +1,8 @@
-ghost use Rattle.cert_check.specs.Verdicts.{FailingFalls, FailsOnce, FirstIn, place_of};
+//! The checker: all places of a certificate in their order.
+
+ghost use Rattle.cert_check.specs.Verdicts.{AllHold, FailsAmong, FailingFalls, FailsOnce, place_of};
 ghost use Rattle.cert_check.specs.declared.verdicts.Reason.{Reason};
-ghost use Rattle.controller.specs.Certificates.{CertificateFits, CertificateStands, FailsFirst, Holds, places};
-ghost use Rattle.controller.specs.Data.{certificate_data};
-ghost use Rattle.std.specs.List.{AllByRecursion};
+ghost use Rattle.controller.specs.Certificates.{CertificateFits, CertificateStands, FailsFirst, places};
 ghost use Rattle.std.specs.Prelude.{IfSome, IsNone, ◌↔◌, ◌≡◌};
 
 use crate::bounds::first_end;
@@ -15,9 +15,9 @@ use game_model::Game;
 /// by number, state and informed action; then point by point its corner, its split places by own action, observation
 /// and next state, and its values by own action; then the start, the bounds and the outcome. It takes no memory.
 pub fn check(game: &Game, certificate: &Certificate) -> Verdict
-    requires { CertificateFits game.now (certificate_data certificate.now) }
-    ensures yes { (result ≡ Verdict.Yes) ↔ CertificateStands game.now (certificate_data certificate.now) }
-    ensures no { (reason : Reason) → (result ≡ Verdict.No reason) ↔ FailsFirst game.now (certificate_data certificate.now) (place_of reason) }
+    requires { CertificateFits game.now certificate.now }
+    ensures yes { (result ≡ Verdict.Yes) ↔ CertificateStands game.now certificate.now }
+    ensures no { (reason : Reason) → (result ≡ Verdict.No reason) ↔ FailsFirst game.now certificate.now (place_of reason) }
 {
     match first_fault(game, certificate) {
         None => Verdict::Yes,
@@ -33,9 +33,9 @@ pub fn law_once()
 
 /// The first place at which a certificate fails.
 fn first_fault(game: &Game, certificate: &Certificate) -> Option<Reason>
-    requires { CertificateFits game.now (certificate_data certificate.now) }
-    ensures none { IsNone result → AllByRecursion (Holds game.now (certificate_data certificate.now)) (places game.now (certificate_data certificate.now)) }
-    ensures first { IfSome result (λ reason. FirstIn (Holds game.now (certificate_data certificate.now)) (places game.now (certificate_data certificate.now)) (place_of reason)) }
+    requires { CertificateFits game.now certificate.now }
+    ensures none { IsNone result → AllHold game.now certificate.now (places game.now certificate.now) }
+    ensures first { IfSome result (FailsAmong game.now certificate.now (places game.now certificate.now)) }
 {
     if let Some(reason) = first_node(game, certificate) {
         return Some(reason);

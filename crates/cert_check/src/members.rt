@@ -1,10 +1,9 @@
-ghost use Rattle.cert_check.specs.Verdicts.{FirstIn, place_of};
-ghost use Rattle.controller.specs.Certificates.{CertificateFits, CornerAt, Holds, node_places, point_places};
-ghost use Rattle.controller.specs.Data.{certificate_data};
-ghost use Rattle.scaled_num.specs.Sums.{below};
+//! The tests of the nodes and of the points of a certificate.
+
+ghost use Rattle.cert_check.specs.Verdicts.{AllHold, FailsAmong};
+ghost use Rattle.controller.specs.Certificates.{CertificateFits, CornerAt, Holds, node_places, point_places, points_places};
 ghost use Rattle.std.specs.Bool.{IsTrue};
-ghost use Rattle.std.specs.List.{AllByRecursion};
-ghost use Rattle.std.specs.Prelude.{IfSome, IsNone, flat_map, length, ◌<◌, ◌↔◌};
+ghost use Rattle.std.specs.Prelude.{IfSome, IsNone, length, ◌<◌, ◌↔◌};
 
 use crate::verdicts::Reason;
 use controller::Certificate;
@@ -13,9 +12,9 @@ use point_set::PointFault;
 
 /// The first place at which a node fails.
 pub fn first_node(game: &Game, certificate: &Certificate) -> Option<Reason>
-    requires { CertificateFits game.now (certificate_data certificate.now) }
-    ensures none { IsNone result → AllByRecursion (Holds game.now (certificate_data certificate.now)) (node_places game.now (certificate_data certificate.now)) }
-    ensures first { IfSome result (λ reason. FirstIn (Holds game.now (certificate_data certificate.now)) (node_places game.now (certificate_data certificate.now)) (place_of reason)) }
+    requires { CertificateFits game.now certificate.now }
+    ensures none { IsNone result → AllHold game.now certificate.now (node_places game.now certificate.now) }
+    ensures first { IfSome result (FailsAmong game.now certificate.now (node_places game.now certificate.now)) }
 {
     for i in 0..certificate.nodes.len() {
         if let Some((s, c)) = certificate.nodes.stands(game, i) {
@@ -27,9 +26,9 @@ pub fn first_node(game: &Game, certificate: &Certificate) -> Option<Reason>
 
 /// The first place at which a point fails.
 pub fn first_point(game: &Game, certificate: &Certificate) -> Option<Reason>
-    requires { CertificateFits game.now (certificate_data certificate.now) }
-    ensures none { IsNone result → AllByRecursion (Holds game.now (certificate_data certificate.now)) (flat_map (point_places game.now) (below (length certificate.now.points.members))) }
-    ensures first { IfSome result (λ reason. FirstIn (Holds game.now (certificate_data certificate.now)) (flat_map (point_places game.now) (below (length certificate.now.points.members))) (place_of reason)) }
+    requires { CertificateFits game.now certificate.now }
+    ensures none { IsNone result → AllHold game.now certificate.now (points_places game.now certificate.now) }
+    ensures first { IfSome result (FailsAmong game.now certificate.now (points_places game.now certificate.now)) }
 {
     for j in 0..certificate.points.len() {
         if let Some(reason) = first_of_point(game, certificate, j) {
@@ -41,10 +40,10 @@ pub fn first_point(game: &Game, certificate: &Certificate) -> Option<Reason>
 
 /// The first place at which one point fails: its corner, its split places, its values.
 fn first_of_point(game: &Game, certificate: &Certificate, j: u32) -> Option<Reason>
-    requires fits { CertificateFits game.now (certificate_data certificate.now) }
-    requires member { j < length certificate.now.points.members }
-    ensures none { IsNone result → AllByRecursion (Holds game.now (certificate_data certificate.now)) (point_places game.now j) }
-    ensures first { IfSome result (λ reason. FirstIn (Holds game.now (certificate_data certificate.now)) (point_places game.now j) (place_of reason)) }
+    requires fits { CertificateFits game.now certificate.now }
+    requires member { j < length certificate.now.points }
+    ensures none { IsNone result → AllHold game.now certificate.now (point_places game.now j) }
+    ensures first { IfSome result (FailsAmong game.now certificate.now (point_places game.now j)) }
 {
     if j < game.states() && !is_corner(game, certificate, j) {
         return Some(Reason::Corner { j });
@@ -58,10 +57,10 @@ fn first_of_point(game: &Game, certificate: &Certificate, j: u32) -> Option<Reas
 
 /// Whether the belief of a point is sure of the state of its number.
 fn is_corner(game: &Game, certificate: &Certificate, j: u32) -> bool
-    requires fits { CertificateFits game.now (certificate_data certificate.now) }
-    requires member { j < length certificate.now.points.members }
+    requires fits { CertificateFits game.now certificate.now }
+    requires member { j < length certificate.now.points }
     requires state { j < game.now.shape.states }
-    ensures { IsTrue result ↔ Holds game.now (certificate_data certificate.now) (CornerAt j) }
+    ensures { IsTrue result ↔ Holds game.now certificate.now (CornerAt j) }
 {
     let parts = certificate.points.point(j).belief.parts();
     for s in 0..game.states() {

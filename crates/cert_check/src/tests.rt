@@ -1,3 +1,5 @@
+//! Tests of the checker: certificates that stand, and the first place of others.
+
 use crate::{Reason, Verdict, check};
 use alpha_set::{Node, NodeSet, Step};
 use belief::{Belief, Mixes};

@@ -1,3 +1,5 @@
+//! What the checker answers: the verdict, and the reason of a no.
+
 /// Why a certificate does not stand: the first place at which it fails.
 #[derive(Clone, Copy, Debug, PartialEq, Eq)]
 pub enum Reason {

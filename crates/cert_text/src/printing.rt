@@ -8,7 +8,7 @@ ghost use Rattle.alpha_set.specs.Members.{node_data};
 ghost use Rattle.alpha_set.specs.Nodes.{no_node};
 ghost use Rattle.belief.specs.Mixes.{mix_at};
 ghost use Rattle.controller.specs.Certificates.{CertificateFits};
-ghost use Rattle.controller.specs.Data.{certificate_data, ending_of, fraction_data};
+ghost use Rattle.controller.specs.Data.{ending_of, fraction_data};
 ghost use Rattle.point_set.specs.Members.{point_data};
 ghost use Rattle.point_set.specs.Points.{no_point};
 ghost use Rattle.text_words.specs.Lines.{line_text};
@@ -173,7 +173,7 @@ fn first_lines(text: &mut String, outcome: Outcome) -> Result<(), AllocError>
 
 /// Writes the lines before the nodes.
 fn head_lines(text: &mut String, certificate: &Certificate) -> Result<(), AllocError>
-    ensures { OnOk result (string_bytes text.new ≡ string_bytes text.old ++ head_text (certificate_data certificate.now)) }
+    ensures { OnOk result (string_bytes text.new ≡ string_bytes text.old ++ head_text certificate.now) }
 {
     first_lines(text, certificate.outcome)?;
     fraction_line(text, "gap", &certificate.gap)?;
@@ -202,8 +202,8 @@ fn head_lines(text: &mut String, certificate: &Certificate) -> Result<(), AllocE
 ///
 /// `AllocError` where there is not enough memory.
 pub fn print(alloc: Global, game: &Game, certificate: &Certificate) -> Result<Vec<u8>, AllocError>
-    requires { CertificateFits game.now (certificate_data certificate.now) }
-    ensures { IfOk result (λ text. text.items ≡ certificate_text (certificate_data certificate.now)) }
+    requires { CertificateFits game.now certificate.now }
+    ensures { IfOk result (λ text. text.items ≡ certificate_text certificate.now) }
 {
     let mut text = String::new(alloc);
     head_lines(&mut text, certificate)?;

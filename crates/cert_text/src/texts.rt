@@ -6,7 +6,6 @@ ghost use Rattle.cert_text.specs.Entries.{limits_of, start_of};
 ghost use Rattle.std.specs.List.{AllByRecursion};
 ghost use Rattle.alpha_set.specs.Members.{node_data};
 ghost use Rattle.controller.specs.Certificates.{CertificateFits};
-ghost use Rattle.controller.specs.Data.{certificate_data};
 ghost use Rattle.point_set.specs.Members.{point_data};
 ghost use Rattle.cert_text.specs.Draft.{AreFit, draft_data, spot_data};
 ghost use Rattle.cert_text.specs.declared.fault.CertFault.TheVariants as certs;
@@ -125,7 +124,7 @@ fn point_set(alloc: Global, game: &Game, spots: Vec<Spot>) -> Result<PointSet, C
 /// The certificate that was in the making.
 fn finish(alloc: Global, game: &Game, draft: Draft) -> Result<Certificate, CertFault>
     requires { CertificateFits game.now (draft_data draft) }
-    ensures same { IfOk result (λ certificate. certificate_data certificate ≡ draft_data draft) }
+    ensures same { IfOk result (λ certificate. certificate ≡ draft_data draft) }
     ensures memory { IfErr result (λ fault. fault ≡ certs.OutOfMemory) }
 {
     let nodes = node_set(alloc, game, draft.nodes)?;
@@ -163,7 +162,7 @@ fn finish(alloc: Global, game: &Game, draft: Draft) -> Result<Certificate, CertF
 /// counted from 1, and its least kind.
 pub fn read(alloc: Global, game: &Game, bytes: &[u8]) -> Result<Certificate, CertFault>
     requires { length bytes.now ≤ 2 ^ 27 }
-    ensures text { IfOk result (λ certificate. IsTextFor game.now (certificate_data certificate) bytes.now) }
+    ensures text { IfOk result (λ certificate. IsTextFor game.now certificate bytes.now) }
     ensures refused { IfErr result (IsRefused game.now bytes.now) }
     ensures no_text { IfErr result (IsNoText game.now bytes.now) }
 {

@@ -1,20 +1,13 @@
--- What stands at every place stands at each one.
-use Rattle.std.proofs.Common.{ℕ, ◌<◌, [], ◌∷◌, ◌++◌, length, map, flat_map, cond, ◌==◌, refl, subst, eq-eqb}
+-- What holds at every place holds at each one, and the other way round.
+use Rattle.std.proofs.Common.{◌<◌, [], ◌∷◌, ◌++◌, length, map, flat_map, cond, ◌==◌, inl, inr, List, refl, subst, ℕ, eq-eqb}
 use Rattle.std.specs.List.{AllByRecursion}
 use Rattle.scaled_num.specs.Sums.{below}
-use Rattle.controller.specs.Certificates.{CertificateData, CornerAt, BoundAt, Holds, NodeAt, OutcomeAt, Place, SplitAt, StartAt, ValueAt, corner_places, node_places, places, point_places, split_places, value_places}
+use Rattle.controller.specs.Certificates.{CertificateData, CertificateFits, CertificateStands, CornerAt, BoundAt, Holds, NodeAt, OutcomeAt, Place, SplitAt, StartAt, ValueAt, corner_places, node_places, places, point_places, split_places, value_places}
+use Rattle.controller.specs.Members.{Rules}
 use Rattle.game_model.specs.Game.{GameData}
+use Rattle.std.proofs.lemmas.Bool.Decides.{eqb_tells}
 use Rattle.scaled_num.proofs.Each.{each-front, each-back, each-of-map, each-of-flat_map, at-below}
-
--- the rule of each place of a certificate that stands
-pub record Rules (g : GameData) (k : CertificateData) : Type 0 where
-  pub node : (i s c : ℕ) → i < length k.nodes → s < g.shape.states → c < g.shape.informed_actions → Holds g k (NodeAt i s c)
-  pub corner : (j : ℕ) → j < length k.points → j < g.shape.states → Holds g k (CornerAt j)
-  pub split : (j a o s : ℕ) → j < length k.points → a < g.shape.own_actions → o < g.shape.observations → s < g.shape.states → Holds g k (SplitAt j a o s)
-  pub value : (j a : ℕ) → j < length k.points → a < g.shape.own_actions → Holds g k (ValueAt j a)
-  pub start : Holds g k StartAt
-  pub bound : Holds g k BoundAt
-  pub outcome : Holds g k OutcomeAt
+use Rattle.scaled_num.proofs.Sums.{below-each, each-append, each-flat_map, each-map}
 
 pub rules : (g : GameData) (k : CertificateData) → AllByRecursion (Holds g k) (places g k) → Rules g k
 rules g k h =
@@ -55,3 +48,40 @@ rules g k h =
   where
     corner_of : (P : Place → Type 0) (j : ℕ) → AllByRecursion P (cond (j == j) (CornerAt j ∷ []) []) → P (CornerAt j)
     corner_of P j h = (subst (λ b. AllByRecursion P (cond b (CornerAt j ∷ []) [])) (eq-eqb j j refl) h).0
+
+-- ---- and back
+of-flat : (P : Place → Type 0) (f : ℕ → List Place) (n : ℕ) → ((i : ℕ) → i < n → AllByRecursion P (f i)) → AllByRecursion P (flat_map f (below n))
+of-flat P f n h = each-flat_map P f (below n) (below-each (λ i. AllByRecursion P (f i)) n h)
+
+of-map : (P : Place → Type 0) (f : ℕ → Place) (n : ℕ) → ((i : ℕ) → i < n → P (f i)) → AllByRecursion P (map f (below n))
+of-map P f n h = each-map P f (below n) (below-each (λ i. P (f i)) n h)
+
+nodes-hold : (g : GameData) (k : CertificateData) → Rules g k → AllByRecursion (Holds g k) (node_places g k)
+nodes-hold g k r =
+    of-flat _ _ (length k.nodes) (λ i li. of-flat _ _ g.shape.states (λ s ls. of-map _ (λ c. NodeAt i s c) g.shape.informed_actions (λ c lc. r.node i s c li ls lc)))
+
+corner-holds : (g : GameData) (k : CertificateData) → Rules g k → (j : ℕ) → j < length k.points → AllByRecursion (Holds g k) (corner_places g j)
+corner-holds g k r j lj =
+    of-flat _ _ g.shape.states (λ s ls.
+    elim (eqb_tells s j) [
+      | inl e ↦ rw e.0 (r.corner j lj (subst (λ (n : ℕ). n < g.shape.states) e.1 ls), tt)
+      | inr e ↦ rw e.0 tt
+    ])
+
+splits-hold : (g : GameData) (k : CertificateData) → Rules g k → (j : ℕ) → j < length k.points → AllByRecursion (Holds g k) (split_places g j)
+splits-hold g k r j lj =
+    of-flat _ _ g.shape.own_actions (λ a la. of-flat _ _ g.shape.observations (λ o lo. of-map _ (λ s. SplitAt j a o s) g.shape.states (λ s ls. r.split j a o s lj la lo ls)))
+
+points-hold : (g : GameData) (k : CertificateData) → Rules g k → AllByRecursion (Holds g k) (flat_map (point_places g) (below (length k.points)))
+points-hold g k r =
+    of-flat _ (point_places g) (length k.points) (λ j lj.
+    each-append (Holds g k) (corner_places g j) (split_places g j ++ value_places g j) (corner-holds g k r j lj)
+    (each-append (Holds g k) (split_places g j) (value_places g j) (splits-hold g k r j lj) (of-map _ (λ a. ValueAt j a) g.shape.own_actions (λ a la. r.value j a lj la))))
+
+pub stands : (g : GameData) (k : CertificateData) → CertificateFits g k → Rules g k → CertificateStands g k
+stands g k fits r =
+    record {
+      fits = fits;
+      holds = each-append (Holds g k) (node_places g k) _ (nodes-hold g k r)
+          (each-append (Holds g k) (flat_map (point_places g) (below (length k.points))) _ (points-hold g k r) (r.start, (r.bound, (r.outcome, tt))));
+    }

@@ -31,9 +31,24 @@ pub record CertificateData : Type 0 where
 abbrev pub most_members : ℕ
 most_members = 1024
 
+-- the first number of 37 digits
+abbrev pub short_end : ℕ
+short_end = 10 ^ 36
+
 -- a numerator and a positive denominator of at most 36 digits
 abbrev pub IsShort : FractionData → Type 0
-IsShort f = (unsigned_abs f.num < 10 ^ 36) × (pos 1 ≤ℤ f.den) × (unsigned_abs f.den < 10 ^ 36)
+IsShort f = (unsigned_abs f.num < short_end) × (pos 1 ≤ℤ f.den) × (unsigned_abs f.den < short_end)
+
+-- the greatest numerator and the greatest denominator of a gap
+abbrev pub most_gap : ℕ
+most_gap = 2 ^ 40
+
+abbrev pub most_gap_under : ℕ
+most_gap_under = 2 ^ 20
+
+-- a tolerance within its limits
+abbrev pub IsGap : FractionData → Type 0
+IsGap f = IsWithin (pos 0) (pos most_gap) f.num × IsWithin (pos 1) (pos most_gap_under) f.den
 
 pub record CertificateFits (g : GameData) (k : CertificateData) : Type 0 where
   pub some_node : 1 ≤ length k.nodes
@@ -44,7 +59,7 @@ pub record CertificateFits (g : GameData) (k : CertificateData) : Type 0 where
   pub points : AllByRecursion (PointFits g (length k.points)) k.points
   pub start_node : k.start_node < length k.nodes
   pub start_point : k.start_point < length k.points
-  pub gap : IsWithin (pos 0) (pos (2 ^ 40)) k.gap.num × IsWithin (pos 1) (pos (2 ^ 20)) k.gap.den
+  pub gap : IsGap k.gap
   pub short : IsShort k.lower × IsShort k.upper × IsShort k.tail
 
 -- the total of the first belief
@@ -108,8 +123,15 @@ value_places g j = map (λ a. ValueAt j a) (below g.shape.own_actions)
 abbrev pub point_places : GameData → ℕ → List Place
 point_places g j = corner_places g j ++ (split_places g j ++ value_places g j)
 
+-- the places of all points, one point after the other
+abbrev pub points_places : GameData → CertificateData → List Place
+points_places g k = flat_map (point_places g) (below (length k.points))
+
+abbrev pub end_places : List Place
+end_places = StartAt ∷ BoundAt ∷ OutcomeAt ∷ []
+
 abbrev pub places : GameData → CertificateData → List Place
-places g k = node_places g k ++ (flat_map (point_places g) (below (length k.points)) ++ StartAt ∷ BoundAt ∷ OutcomeAt ∷ [])
+places g k = node_places g k ++ (points_places g k ++ end_places)
 
 -- a certificate stands
 pub record CertificateStands (g : GameData) (k : CertificateData) : Type 0 where

@@ -1,8 +1,9 @@
-ghost use Rattle.controller.specs.Certificates.{CertificateFits, IsShort};
-ghost use Rattle.controller.specs.Data.{certificate_data, fraction_data};
-ghost use Rattle.game_model.specs.Game.{IsWithin};
+//! Certificates, and whether one fits a game.
+
+ghost use Rattle.controller.specs.Certificates.{CertificateFits, IsGap, IsShort};
+ghost use Rattle.controller.specs.Data.{fraction_data};
 ghost use Rattle.std.specs.Bool.{IsTrue};
-ghost use Rattle.std.specs.Prelude.{pos, ◌^◌, ◌↔◌};
+ghost use Rattle.std.specs.Prelude.{◌↔◌};
 
 use crate::nodes::nodes_fit;
 use crate::points::points_fit;
@@ -10,6 +11,7 @@ use alpha_set::NodeSet;
 use game_model::Game;
 use point_set::PointSet;
 use scaled_num::Fraction;
+use std::marker::Model;
 
 /// How a run of the solver ended.
 #[derive(Clone, Copy, Debug, PartialEq, Eq)]
@@ -46,6 +48,25 @@ pub struct Certificate {
     pub start_point: u32,
 }
 
+impl Model for Certificate {
+    ghost use Rattle.controller.specs.Certificates.{CertificateData};
+    ghost use Rattle.controller.specs.Data.{ending_of, fraction_data};
+
+    ghost Value = { CertificateData };
+
+    ghost view = { λ k. record {
+      lower = fraction_data k.lower;
+      upper = fraction_data k.upper;
+      tail = fraction_data k.tail;
+      gap = fraction_data k.gap;
+      outcome = ending_of k.outcome;
+      nodes = k.nodes.members;
+      points = k.points.members;
+      start_node = k.start_node;
+      start_point = k.start_point;
+    } };
+}
+
 /// The greatest numerator of a gap.
 pub const MOST_GAP: i128 = 1 << 40;
 
@@ -60,7 +81,7 @@ impl Certificate {
     /// for each state, the starts are members, the gap is within its limits and no fraction has more than 36 digits.
     /// It takes no memory.
     pub fn fits(&self, game: &Game) -> bool
-        ensures { IsTrue result ↔ CertificateFits game.now (certificate_data self.now) }
+        ensures { IsTrue result ↔ CertificateFits game.now self.now }
     {
         1 <= self.nodes.len()
             && game.states() <= self.points.len()
@@ -77,7 +98,7 @@ impl Certificate {
 
 /// Whether a gap is within its limits.
 fn is_gap(gap: &Fraction) -> bool
-    ensures { IsTrue result ↔ (IsWithin (pos 0) (pos (2 ^ 40)) gap.now.num × IsWithin (pos 1) (pos (2 ^ 20)) gap.now.den) }
+    ensures { IsTrue result ↔ IsGap (fraction_data gap.now) }
 {
     0 <= gap.num && gap.num <= MOST_GAP && 1 <= gap.den && gap.den <= MOST_GAP_UNDER
 }

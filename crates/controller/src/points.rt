@@ -1,3 +1,5 @@
+//! Whether the points of a certificate fit a game and name points of the set.
+
 ghost use Rattle.game_model.specs.Game.{IsWithin, span};
 ghost use Rattle.point_set.specs.Members.{point_data};
 ghost use Rattle.point_set.specs.Points.{PointFits, most_share};

@@ -1,3 +1,5 @@
+//! Tests of what fits: a vector above the span and a share of no point do not.
+
 use crate::{Certificate, Outcome};
 use alpha_set::{Node, NodeSet, Step};
 use belief::{Belief, Mixes};

@@ -17,3 +17,5 @@ pub mod Worth
 pub mod Expected
 pub mod Least
 pub mod FirstProduct
+pub mod Affine
+pub mod Mixed

@@ -1,5 +1,6 @@
 -- What is proved of plays, pay, and the plan that always plays one action.
-use Rattle.std.specs.Prelude.{ℕ, suc, ◌*◌, ◌^◌, ◌≡◌, ◌<◌, ℤ, pos, ◌+ℤ◌, ◌-ℤ◌, ◌*ℤ◌, ◌≤ℤ◌, List, sum_by, Contains, AllPairs}
+use Rattle.std.specs.Prelude.{ℕ, suc, ◌*◌, ◌^◌, ◌≡◌, ◌<◌, ℤ, pos, ◌+ℤ◌, ◌-ℤ◌, ◌*ℤ◌, ◌≤ℤ◌, List, ◌∷◌, length, sum_by, Contains, AllPairs}
+use Rattle.std.specs.List.{AllByRecursion}
 use Rattle.scaled_num.specs.Sums.{below, total}
 use Rattle.game_model.specs.Numbers.{Numbers, over_row, RowsAreFull, product}
 use Rattle.game_model.specs.Plan.{OwnPlan, InformedPlan, IsOwnPlan, IsInformedPlan, IsFamily}
@@ -16,6 +17,47 @@ abbrev pub PlaysAreOnce : Type 0
 PlaysAreOnce =
     (g : Numbers) (n : ℕ) (sigma : OwnPlan n) (tau : InformedPlan n) →
     AllPairs (λ play later. play ≡ later → ⊥) (plays g n sigma tau)
+
+-- each play of n stages has n steps
+abbrev pub PlaysAreLong : Type 0
+PlaysAreLong =
+    (g : Numbers) (n : ℕ) (sigma : OwnPlan n) (tau : InformedPlan n) →
+    AllByRecursion (λ play. length play ≡ n) (plays g n sigma tau)
+
+-- a sum over all plays is a sum over the first steps, of sums over the plays of what is left
+abbrev pub PlaysByFirstSteps : Type 0
+PlaysByFirstSteps =
+    (g : Numbers) (n : ℕ) (sigma : OwnPlan (suc n)) (tau : InformedPlan (suc n)) (f : List Step → ℤ) →
+    total f (plays g (suc n) sigma tau)
+    ≡ total (λ step. total (λ rest. f (step ∷ rest)) (plays g n (own_after n sigma step).1 (informed_after n tau step).1))
+    (first_steps g n sigma tau)
+
+-- a sum over the first steps is six sums, one in another: over both actions, the observation, the next state and the
+-- places of both players' branches
+abbrev pub FirstStepsByParts : Type 0
+FirstStepsByParts =
+    (g : Numbers) (n : ℕ) (sigma : OwnPlan (suc n)) (tau : InformedPlan (suc n)) (f : Step → ℤ) →
+    let step : ℕ → ℕ → ℕ → ℕ → ℕ → ℕ → Step = λ a c o t u v. record { own = a; informed = c; seen = o; to = t; own_place = u; informed_place = v } in
+    total f (first_steps g n sigma tau)
+    ≡ total (λ a. total (λ c. total (λ o. total (λ t. total (λ u. total (λ v. f (step a c o t u v))
+    (below (length (tau c a o t)))) (below (length (sigma a o)))) (below g.states)) (below g.observations)) (below g.informed_actions)) (below g.own_actions)
+
+-- the weights of a row sum to the row total
+abbrev pub RowsSum : Type 0
+RowsSum =
+    (g : Numbers) → RowsAreFull g → (s a c : ℕ) → s < g.states → a < g.own_actions → c < g.informed_actions → (z : ℤ) →
+    over_row g s a c (λ o t. z) ≡ pos g.row_total *ℤ z
+
+-- a sum over a row is linear
+abbrev pub RowsAdd : Type 0
+RowsAdd =
+    (g : Numbers) (s a c : ℕ) (f h : ℕ → ℕ → ℤ) →
+    over_row g s a c (λ o t. f o t +ℤ h o t) ≡ over_row g s a c f +ℤ over_row g s a c h
+
+abbrev pub RowsScale : Type 0
+RowsScale =
+    (g : Numbers) (s a c : ℕ) (k : ℤ) (f : ℕ → ℕ → ℤ) →
+    over_row g s a c (λ o t. k *ℤ f o t) ≡ k *ℤ over_row g s a c f
 
 -- the weights of all plays of n stages sum to the n-th power of the row total times both plans' totals
 abbrev pub WeightsOfPlays : Type 0

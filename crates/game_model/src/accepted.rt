@@ -157,6 +157,7 @@ impl Game {
 pub fn law_game(game: &Game)
     ensures accepted { IsGame game.now }
     ensures keeps_span { KeepsSpan (numbers game.now) (span game.now) }
+    ensures small_span { span game.now ≤ 2 ^ 66 }
 {
     let _width = game.width;
 }

@@ -14,7 +14,10 @@ mod tests;
 pub use accepted::{Game, law_game};
 pub use branches::Branch;
 pub use builder::{GameBuilder, GameFault};
-pub use laws::{law_always, law_families, law_pay, law_plays, law_seeds, law_weights};
+pub use laws::{
+    law_always, law_families, law_mixed, law_pay, law_plays, law_rows, law_seeds, law_sums,
+    law_weights,
+};
 pub use parts::{
     Landing, MIX_TOTAL, MOST_ACTIONS, MOST_BELIEF, MOST_DISCOUNT, MOST_OBSERVATIONS, MOST_REWARD,
     MOST_ROW_TOTAL, MOST_STATES, MOST_WIDTH, SEED_ROUNDS, Shape, UNITS,

@@ -16,8 +16,11 @@ impl Game {
     pub fn steady(&self, a: u32, out: &mut [i128])
         requires action { a < self.now.shape.own_actions }
         requires states { length out.old ≡ self.now.shape.states }
-        ensures { IsSeed (numbers self.now) (span self.now) a (λ s. slice_index_or out.new s (pos 0)) }
+        ensures seed { IsSeed (numbers self.now) (span self.now) a (λ s. slice_index_or out.new s (pos 0)) }
+        ensures bounded { IsBounded self.now out.new }
+        ensures small { AllByRecursion (λ x. unsigned_abs x ≤ 2 ^ 70) out.new }
     {
+        law_game(self);
         out.fill(-self.span());
         settle(self, a, SEED_ROUNDS, out);
     }
@@ -45,7 +48,8 @@ fn settle(game: &Game, a: u32, rounds: u32, out: &mut [i128])
     requires action { a < game.now.shape.own_actions }
     requires states { length out.old ≡ game.now.shape.states }
     requires start { AllByRecursion (λ x. x ≡ neg_ℤ (pos (span game.now))) out.old }
-    ensures { IsSeedAfter (numbers game.now) (span game.now) a rounds (λ s. slice_index_or out.new s (pos 0)) }
+    ensures seed { IsSeedAfter (numbers game.now) (span game.now) a rounds (λ s. slice_index_or out.new s (pos 0)) }
+    ensures bounded { IsBounded game.now out.new }
 {
     law_game(game);
     let mut before = [0; MOST_STATES];

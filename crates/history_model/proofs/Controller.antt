@@ -9,7 +9,8 @@ use Rattle.game_model.specs.Plan.{OwnPlan, InformedPlan, IsOwnPlan, IsInformedPl
 use Rattle.game_model.specs.Play.{first_steps, step_weight, own_branch, informed_branch, own_after, informed_after, no_own_plan, no_informed_plan, pay}
 use Rattle.alpha_set.specs.Nodes.{Node, Step, steps_at, steps_worth}
 use Rattle.history_model.specs.Plans.{own_plan}
-use Rattle.history_model.proofs.Parts.{NodeKeeps, NodeGains, ControllerEarns, ControllerEarnsFamily}
+use Rattle.controller.specs.Members.{NodeKeeps}
+use Rattle.history_model.proofs.Parts.{NodeGains, ControllerEarns, ControllerEarnsFamily}
 use Rattle.scaled_num.proofs.Products.{mulℤ_left_comm, le-mulℤ, products, sums}
 use Rattle.scaled_num.proofs.Sums.{total-scale, total-add, total-same, total-below, total-below-le, total-weights, total-pos, total-swap, total-places, sum_by-map, each, each-at, each-map}
 use Rattle.game_model.proofs.Steps.{first_steps-each, total-informed_coins, total-row, over_row-add, over_row-scale}

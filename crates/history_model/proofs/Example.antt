@@ -9,7 +9,7 @@ use Rattle.game_model.specs.Game.{GameData, first_at, numbers, span, unit}
 use Rattle.game_model.specs.Plan.{InformedPlan}
 use Rattle.game_model.specs.Play.{always, pay}
 use Rattle.game_model.specs.declared.parts.Landing.{Landing}
-use Rattle.history_model.specs.Halves.{common, hold, own}
+use Rattle.history_model.specs.Halves.{common, reply, start}
 
 abbrev branch : ℕ → ℕ → ℕ → ℕ → Branch
 branch a o k weight = record { own = a; seen = o; member = k; weight = pos weight }
@@ -45,13 +45,13 @@ alone zero = tt
 alone (suc n) = λ c a o t. (1, alone n) ∷ []
 
 -- over two stages there is one play, of weight 65536^2 and gain 3*4 + 3*2 = 18
-three_pay : pay (numbers three_halved) 2 0 (own three_certificate 2) (alone 2) ≡ pos (65536 ^ 2 * 18)
+three_pay : pay (numbers three_halved) 2 0 (start three_certificate 2) (alone 2) ≡ pos (65536 ^ 2 * 18)
 three_pay = refl
 
 -- the lower half over two stages: 65536 * 18 * 65536^2 on both sides
 three_lower :
     (pos 393216 *ℤ pos ((numbers three_halved).discount_under ^ 2) -ℤ pos ((numbers three_halved).discount_over ^ 2 * span three_halved * first_total three_halved)) *ℤ pos (((numbers three_halved).row_total * mix_total * 1) ^ 2)
-    ≡ pos unit *ℤ total (λ s. pos (first_at three_halved s) *ℤ pay (numbers three_halved) 2 s (own three_certificate 2) (alone 2)) (below 1)
+    ≡ pos unit *ℤ total (λ s. pos (first_at three_halved s) *ℤ pay (numbers three_halved) 2 s (start three_certificate 2) (alone 2)) (below 1)
 three_lower = refl
 
 -- ---- one of two states is drawn, and player one guesses it once
@@ -92,6 +92,6 @@ guess_common = refl
 
 -- the upper half over one stage against always guessing state 0, where the tail is 0: 65536 * 65536 * 65536^8 on both sides
 guess_upper :
-    pos unit *ℤ total (λ s. pos (first_at guess_the_state s) *ℤ pay (numbers guess_the_state) 1 s (always 0 1) (hold guess_the_state guess_certificate s 1)) (below 2)
+    pos unit *ℤ total (λ s. pos (first_at guess_the_state s) *ℤ pay (numbers guess_the_state) 1 s (always 0 1) (reply guess_the_state guess_certificate s 1)) (below 2)
     ≡ pos (65536 * 1 * 65536 * common guess_the_state guess_certificate)
 guess_upper = refl

@@ -6,16 +6,9 @@ use Rattle.alpha_set.specs.Nodes.{Node, steps_at, steps_worth}
 use Rattle.game_model.specs.Numbers.{Numbers, over_row, RowsAreFull}
 use Rattle.game_model.specs.Plan.{InformedPlan, IsInformedPlan, IsOwnPlan, OwnPlan}
 use Rattle.game_model.specs.Play.{pay}
-use Rattle.history_model.specs.Plans.{belief_pay, belief_total, informed_plan, mass_product, own_plan}
+use Rattle.controller.specs.Members.{NodeKeeps, PointKeeps, belief_total}
+use Rattle.history_model.specs.Plans.{belief_pay, informed_plan, mass_product, own_plan}
 use Rattle.point_set.specs.Points.{Point, mass, shares_at}
-
--- A node fits: its entries are at most the span, its mix sums to the total, and after each own action and
--- observation its steps have the weight of that action and name nodes below the number of nodes.
-pub record NodeKeeps (g : Numbers) (mix_total span count : ℕ) (node : Node) : Type 0 where
-  pub at_most : (s : ℕ) → s < g.states → node.vector s ≤ℤ pos span
-  pub mix_sums : sum_by node.mix (below g.own_actions) ≡ mix_total
-  pub steps_sum : (a o : ℕ) → a < g.own_actions → o < g.observations → sum_by (λ step. step.weight) (steps_at node a o) ≡ node.mix a
-  pub named : (a o : ℕ) → a < g.own_actions → o < g.observations → AllByRecursion (λ step. step.node < count) (steps_at node a o)
 
 -- the node rule: in one stage node i loses nothing, whatever the informed player does
 abbrev pub NodeGains : Numbers → ℕ → ℕ → (ℕ → Node) → ℕ → Type 0
@@ -24,13 +17,6 @@ NodeGains g e mix_total nodes i =
     ((nodes i).vector s *ℤ pos (mix_total * g.row_total * g.discount_under))
     ≤ℤ (total (λ a. pos ((nodes i).mix a) *ℤ g.reward s a c *ℤ pos (e * g.row_total * g.discount_under)) (below g.own_actions)
     +ℤ pos g.discount_over *ℤ total (λ a. over_row g s a c (λ o t. steps_worth nodes (nodes i) a o t)) (below g.own_actions))
-
--- A point fits: its value is not below the span times the sum of its belief, less than 0, the mixes of each
--- state sum to the total, and its shares name points below the number of points.
-pub record PointKeeps (g : Numbers) (mix_total span count : ℕ) (point : Point) : Type 0 where
-  pub at_least : pos 0 ≤ℤ (point.value +ℤ pos (span * belief_total g point))
-  pub mixes_sum : (s : ℕ) → s < g.states → sum_by (point.mixes s) (below g.informed_actions) ≡ mix_total
-  pub named : (a o : ℕ) → a < g.own_actions → o < g.observations → AllByRecursion (λ share. share.point < count) (shares_at point a o)
 
 -- A point stands: its shares make up its mass, and in one stage its value loses nothing whatever player one does.
 pub record PointLoses (g : Numbers) (e mix_total : ℕ) (points : ℕ → Point) (j : ℕ) : Type 0 where

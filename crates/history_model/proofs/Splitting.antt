@@ -12,8 +12,9 @@ use Rattle.game_model.specs.Numbers.{Numbers, RowsAreFull}
 use Rattle.game_model.specs.Plan.{OwnPlan, InformedPlan, IsOwnPlan, IsInformedPlan, branches_total}
 use Rattle.game_model.specs.Play.{Step, first_steps, step_weight, own_branch, own_after, informed_after, no_own_plan, no_informed_plan, pay}
 use Rattle.point_set.specs.Points.{Point, Share, mass, shares_at}
-use Rattle.history_model.specs.Plans.{belief_pay, belief_total, informed_plan, mass_product, masses, product_of_positive}
-use Rattle.history_model.proofs.Parts.{PointKeeps, PointLoses, SplittingHolds, SplittingPlans}
+use Rattle.controller.specs.Members.{PointKeeps, belief_total}
+use Rattle.history_model.specs.Plans.{belief_pay, informed_plan, mass_product, masses, product_of_positive}
+use Rattle.history_model.proofs.Parts.{PointLoses, SplittingHolds, SplittingPlans}
 use Rattle.scaled_num.proofs.Products.{mulℤ_assoc, mulℤ_left_comm, le-mulℤ, products, sums}
 use Rattle.scaled_num.proofs.Sums.{total-scale, total-add, total-same, total-le, total-below, total-below-le, total-weights, total-pos, total-map, total-swap, total-places, sum_by-map, each, each-at, each-map, below-each, sum_by-same}
 use Rattle.game_model.proofs.Steps.{total-first_steps, total-coins_row, total-row}

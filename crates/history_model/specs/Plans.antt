@@ -1,5 +1,5 @@
 -- The plans of a controller and of a splitting strategy.
-use Rattle.std.specs.Prelude.{ℕ, zero, suc, ◌*◌, ◌/◌, ◌==◌, ℤ, pos, ◌*ℤ◌, List, [], ◌∷◌, map, flat_map, sum_by, cond}
+use Rattle.std.specs.Prelude.{ℕ, zero, suc, ◌*◌, ◌/◌, ◌==◌, ℤ, pos, ◌*ℤ◌, List, [], ◌∷◌, map, flat_map, cond}
 use Rattle.scaled_num.specs.Sums.{below, total}
 use Rattle.alpha_set.specs.Nodes.{Node, steps_at}
 use Rattle.game_model.specs.Numbers.{Numbers}
@@ -37,10 +37,6 @@ informed_plan g points z j s (suc n) = λ c a o t.
     (((points j).mixes s c * z, informed_plan g points z t t n) ∷ [])
     (map (λ share. ((points j).mixes s c * share.weight * (points share.point).belief t * (z / mass g (points j) a o t), informed_plan g points z share.point t n))
     (shares_at (points j) a o))
-
--- the sum of a point's belief
-abbrev pub belief_total : Numbers → Point → ℕ
-belief_total g point = sum_by point.belief (below g.states)
 
 -- what player one's plan earns against the plans of a point, summed over the states by the point's belief
 abbrev pub belief_pay : Numbers → (ℕ → Point) → ℕ → (n : ℕ) → ℕ → OwnPlan n → ℤ

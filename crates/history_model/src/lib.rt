@@ -2,48 +2,53 @@
 #![tactic(auto)]
 
 ghost use Rattle.controller.specs.Certificates.{CertificateStands};
-ghost use Rattle.controller.specs.Data.{certificate_data};
-ghost use Rattle.history_model.specs.Halves.{HoldIsPlan, LowerHalf, LowerHalfAt, LowerHolds, MassesDivide, OwnIsPlan, UpperHalf, UpperHolds};
+ghost use Rattle.history_model.specs.Halves.{HoldIsPlan, LowerHalf, LowerHalfAt, LowerHolds, MassesDivide, NodesArePlans, NodesEarn, OwnIsPlan};
+ghost use Rattle.history_model.specs.Halves.{PointsArePlans, PointsHold, UpperHalf, UpperHolds};
 
 use controller::Certificate;
 use game_model::{Game, law_game};
 
-/// A law: the controller of every certificate that stands is a right plan, and earns the lower bound less the tail
-/// against every plan of the informed player.
+/// A law: the plans of all nodes of every certificate that stands are right plans, and earn the node's entry less the
+/// tail in each first state; the start node's plan earns the lower bound less the tail.
 pub fn law_controllers()
     ensures { LowerHolds }
 {}
 
-/// A law: the splitting strategy of every certificate that stands is a right plan in each first state, and holds every
-/// plan of player one to the upper bound plus the tail; each positive mass divides the common multiple.
+/// A law: the plans of all points of every certificate that stands are right plans in each first state, and hold every
+/// plan of player one to the point's value plus the tail; the start point's plans to the upper bound plus the tail.
+/// Each positive mass divides the common multiple.
 pub fn law_splittings()
     ensures { UpperHolds }
 {}
 
-/// A law: the lower half for a certificate that stands. Its controller is a right plan of the total of a mix, and over
-/// every number of stages, against every family of plans of the informed player and any total, it earns at least the
-/// lower bound less the tail; in each first state alone at least the start node's entry less the tail.
+/// A law: the lower half for a certificate that stands. The plan of every node is a right plan of the total of a mix,
+/// and over every number of stages, in each first state, against every plan of the informed player and any total, it
+/// earns at least the node's entry less the tail. The controller, which is the start node's plan, earns at least the
+/// lower bound less the tail against every family of plans.
 pub fn law_lower(game: &Game, certificate: &Certificate)
-    requires { CertificateStands game.now (certificate_data certificate.now) }
-    ensures plan { OwnIsPlan game.now (certificate_data certificate.now) }
-    ensures family { LowerHalf game.now (certificate_data certificate.now) }
-    ensures state { LowerHalfAt game.now (certificate_data certificate.now) }
+    requires { CertificateStands game.now certificate.now }
+    ensures plans { NodesArePlans game.now certificate.now }
+    ensures nodes { NodesEarn game.now certificate.now }
+    ensures plan { OwnIsPlan game.now certificate.now }
+    ensures family { LowerHalf game.now certificate.now }
+    ensures state { LowerHalfAt game.now certificate.now }
 {
     law_game(game);
     law_controllers();
-    let _start = certificate.start_node;
 }
 
-/// A law: the upper half for a certificate that stands. Its splitting strategy is a right plan in each first state, and
-/// over every number of stages it holds every plan of player one, of any total, to at most the upper bound plus the
-/// tail. Each positive mass divides the common multiple.
+/// A law: the upper half for a certificate that stands. The plan of every point is a right plan in each first state,
+/// and over every number of stages, summed over the first states by the point's belief, it holds every plan of player
+/// one, of any total, to at most the point's value plus the tail. The splitting strategy, which is the start point's
+/// plan, holds it to at most the upper bound plus the tail. Each positive mass divides the common multiple.
 pub fn law_upper(game: &Game, certificate: &Certificate)
-    requires { CertificateStands game.now (certificate_data certificate.now) }
-    ensures divide { MassesDivide game.now (certificate_data certificate.now) }
-    ensures plan { HoldIsPlan game.now (certificate_data certificate.now) }
-    ensures half { UpperHalf game.now (certificate_data certificate.now) }
+    requires { CertificateStands game.now certificate.now }
+    ensures divide { MassesDivide game.now certificate.now }
+    ensures plans { PointsArePlans game.now certificate.now }
+    ensures points { PointsHold game.now certificate.now }
+    ensures plan { HoldIsPlan game.now certificate.now }
+    ensures half { UpperHalf game.now certificate.now }
 {
     law_game(game);
     law_splittings();
-    let _start = certificate.start_point;
 }

@@ -4,6 +4,5 @@ pub mod Choice
 pub mod Due
 pub mod FixedAction
 pub mod Places
-pub mod Seeded
 pub mod Shared
 pub mod Verdicts

@@ -1,6 +1,5 @@
 //! The command `check`: the verdict on a certificate for a game.
 ghost use Rattle.controller.specs.Certificates.{CertificateFits, CertificateStands};
-ghost use Rattle.controller.specs.Data.{certificate_data};
 ghost use Rattle.osposg_cli.specs.Check.{AnswersCheck, IsVerdict, IsYesText, KeepsCheck, placed, yes_lines};
 ghost use Rattle.osposg_cli.specs.Defined.{IsDefined};
 ghost use Rattle.osposg_cli.specs.Inputs.{most_input};
@@ -43,8 +42,8 @@ pub fn law_check()
 
 /// The verdict on a certificate.
 fn verdict(alloc: Global, game: &Game, certificate: &Certificate) -> Result<Answer, AllocError>
-    requires { CertificateFits game.now (certificate_data certificate.now) }
-    ensures { IfOk result (λ answer. IsVerdict game.now (certificate_data certificate.now) answer.status answer.text.items) }
+    requires { CertificateFits game.now certificate.now }
+    ensures { IfOk result (λ answer. IsVerdict game.now certificate.now answer.status answer.text.items) }
 {
     match cert_check::check(game, certificate) {
         Verdict::Yes => Ok(Answer {
@@ -57,8 +56,8 @@ fn verdict(alloc: Global, game: &Game, certificate: &Certificate) -> Result<Answ
 
 /// What `check` writes of a certificate that stands: `yes`, its bounds and its tail.
 fn yes_text(alloc: Global, game: &Game, certificate: &Certificate) -> Result<Vec<u8>, AllocError>
-    requires { CertificateStands game.now (certificate_data certificate.now) }
-    ensures { IfOk result (λ text. IsYesText (certificate_data certificate.now) text.items) }
+    requires { CertificateStands game.now certificate.now }
+    ensures { IfOk result (λ text. IsYesText certificate.now text.items) }
 {
     law_game(game);
     let down = decimals_down(alloc, &certificate.lower)?;

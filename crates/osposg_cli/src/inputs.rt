@@ -1,5 +1,4 @@
 //! What commands share in reading their input: a game alone, or a game and a certificate at once after it.
-ghost use Rattle.controller.specs.Data.{certificate_data};
 ghost use Rattle.cert_text.specs.Answers.{IsTextFor};
 ghost use Rattle.game_text.specs.Text.{IsTextOf};
 ghost use Rattle.osposg_cli.specs.Inputs.{IsTextOfBoth, RefusesBoth, RefusesGame, RefusesRest, TextsAreExact, most_input};
@@ -37,7 +36,7 @@ pub fn game_and_certificate(
 ) -> Result<Given<(Game, Certificate)>, AllocError>
     requires { length bytes.now ≤ most_input }
     ensures { IfOk result (λ given. MatchResult given
-        (λ both. IsTextOfBoth both.0 (certificate_data both.1) bytes.now)
+        (λ both. IsTextOfBoth both.0 both.1 bytes.now)
         (λ refusal. RefusesBoth bytes.now refusal.status refusal.text.items)) }
 {
     match game_text::read(alloc, bytes) {
@@ -58,7 +57,7 @@ fn certificate_for(
 ) -> Result<Given<Certificate>, AllocError>
     requires { length bytes.now ≤ most_input }
     ensures { IfOk result (λ given. MatchResult given
-        (λ certificate. IsTextFor game.now (certificate_data certificate) bytes.now)
+        (λ certificate. IsTextFor game.now certificate bytes.now)
         (λ refusal. RefusesRest game.now bytes.now refusal.status refusal.text.items)) }
 {
     match cert_text::read(alloc, game, bytes) {

@@ -1,5 +1,11 @@
-use Rattle.history_model.proofs.Standing.{lower-half, lower-half_at, own-is_plan}
+use Rattle.history_model.proofs.Standing.{lower-half, lower-half_at, nodes-are_plans, nodes-earn, own-is_plan}
 use Rattle.history_model.proofs.law_controllers.Goals as goal
 
 pub returns : goal.returns
-returns c = record { plan = own-is_plan; family = λ g k keeps. lower-half g k keeps.full; state = λ g k keeps. lower-half_at g k keeps.full }
+returns c = record {
+  plans = nodes-are_plans;
+  nodes = λ g k keeps. nodes-earn g k keeps.full;
+  plan = own-is_plan;
+  family = λ g k keeps. lower-half g k keeps.full;
+  state = λ g k keeps. lower-half_at g k keeps.full;
+}

@@ -2,7 +2,7 @@ use Rattle.controller.specs.Certificates.{CertificateData}
 use Rattle.game_model.specs.Game.{GameData, numbers}
 use Rattle.history_model.specs.Halves.{MassesDivide}
 use Rattle.history_model.proofs.Splitting.{masses-divide}
-use Rattle.history_model.proofs.Standing.{hold-is_plan, upper-half}
+use Rattle.history_model.proofs.Standing.{hold-is_plan, points-are_plans, points-hold, upper-half}
 use Rattle.history_model.proofs.law_splittings.Goals as goal
 use Rattle.point_set.specs.Points.{points_of}
 use Rattle.std.proofs.Common.{length}
@@ -11,4 +11,10 @@ divide : (g : GameData) (k : CertificateData) → MassesDivide g k
 divide g k = masses-divide (numbers g) (points_of k.points) (length k.points)
 
 pub returns : goal.returns
-returns c = record { divide = divide; plan = hold-is_plan; half = λ g k keeps. upper-half g k keeps.full }
+returns c = record {
+  divide = divide;
+  plans = points-are_plans;
+  points = λ g k keeps. points-hold g k keeps.full;
+  plan = hold-is_plan;
+  half = λ g k keeps. upper-half g k keeps.full;
+}

@@ -13,6 +13,6 @@ returns c =
     let items : List ℤ = c.in_ok-vector.vector.items in
     let out : List ℤ = c.steady.new.out in
     let count : length out ≡ c.in_ok-vector.vector.len = c.steady.auto.out ∙ c.deref_mut.ensures.len in
-    let seed : IsSeed (numbers g) (span g) c.args.a (at out) = assumption c.steady.ensures in
+    let seed : IsSeed (numbers g) (span g) c.args.a (at out) = assumption c.steady.ensures.seed in
     subst (IsSeedVector g c.args.a) (sym (front-is out items c.in_ok-vector.vector.len count))
     (record { long = count ∙ c.in_ok-vector.ensures.len ∙ c.states.ensures; seed = seed })

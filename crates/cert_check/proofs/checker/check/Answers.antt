@@ -1,7 +1,6 @@
 use Rattle.std.proofs.Common.{◌≡◌, ap, refl, subst, sym, ◌∙◌}
 use Rattle.game_model.specs.Game.{GameData}
 use Rattle.controller.specs.Certificates.{BoundAt, CertificateData, CornerAt, FailsFirst, Holds, NodeAt, OutcomeAt, Place, SplitAt, StartAt, ValueAt, places}
-use Rattle.controller.specs.Data.{certificate_data}
 use Rattle.cert_check.specs.Verdicts.{place_of}
 use Rattle.cert_check.specs.declared.verdicts.Reason.{Reason}
 use Rattle.cert_check.specs.declared.verdicts.Reason.TheVariants.{Bound, Corner, Node, Outcome, Split, Start, Value}
@@ -36,19 +35,19 @@ same-reason x y e = sym (is-own x) ∙ ap reason_of e ∙ is-own y
 pub returns-in-None-clause-no : goal.returns-in-None-clause-no
 returns-in-None-clause-no c = λ reason.
     let g : GameData = c.args.game.now in
-    let k : CertificateData = certificate_data c.args.certificate.now in
+    let k : CertificateData = c.args.certificate.now in
     (λ e. cc, λ f. absurd (none-fails (Holds g k) (places g k) (place_of reason) (c.in-None.ensures.none refl) (first-in g k (place_of reason) f)))
 
 pub returns-in-Some-clause-yes : goal.returns-in-Some-clause-yes
 returns-in-Some-clause-yes c =
     let g : GameData = c.args.game.now in
-    let k : CertificateData = certificate_data c.args.certificate.now in
+    let k : CertificateData = c.args.certificate.now in
     (λ e. cc, λ stands. absurd (none-fails (Holds g k) (places g k) (place_of c.in-Some.reason) stands.holds c.in-Some.ensures.first))
 
 pub returns-in-Some-clause-no : goal.returns-in-Some-clause-no
 returns-in-Some-clause-no c = λ reason.
     let g : GameData = c.args.game.now in
-    let k : CertificateData = certificate_data c.args.certificate.now in (
+    let k : CertificateData = c.args.certificate.now in (
       λ e. let same : c.in-Some.reason ≡ reason = cc in subst (λ (r : Reason). FailsFirst g k (place_of r)) same (fails-first g k (place_of c.in-Some.reason) c.in-Some.ensures.first),
       λ f. ap No (same-reason c.in-Some.reason reason (once (Holds g k) (places g k) (place_of c.in-Some.reason) (place_of reason) c.in-Some.ensures.first (first-in g k (place_of reason) f))),
     )

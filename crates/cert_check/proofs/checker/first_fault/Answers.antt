@@ -3,7 +3,6 @@ use Rattle.scaled_num.specs.Sums.{below}
 use Rattle.game_model.specs.Game.{GameData}
 use Rattle.alpha_set.proofs.Rules.{if-some}
 use Rattle.controller.specs.Certificates.{BoundAt, CertificateData, Holds, OutcomeAt, Place, StartAt, node_places, point_places, places}
-use Rattle.controller.specs.Data.{certificate_data}
 use Rattle.cert_check.specs.Verdicts.{FirstIn, place_of}
 use Rattle.cert_check.specs.declared.verdicts.Reason.{Reason}
 use Rattle.cert_check.proofs.First.{first-left, first-right}
@@ -18,14 +17,14 @@ points g k = flat_map (point_places g) (below (length k.points))
 pub returns-in-Some-first_point-clause-first : goal.returns-in-Some-first_point-clause-first
 returns-in-Some-first_point-clause-first c =
     let g : GameData = c.args.game.now in
-    let k : CertificateData = certificate_data c.args.certificate.now in
+    let k : CertificateData = c.args.certificate.now in
     first-right (Holds g k) (node_places g k) (points g k ++ ends) (place_of c.in-Some-first_point.reason) (c.in_default.ensures.none refl)
     (first-left (Holds g k) (points g k) ends (place_of c.in-Some-first_point.reason) c.in-Some-first_point.ensures.first)
 
 pub returns-clause-first : goal.returns-clause-first
 returns-clause-first c =
     let g : GameData = c.args.game.now in
-    let k : CertificateData = certificate_data c.args.certificate.now in
+    let k : CertificateData = c.args.certificate.now in
     if-some (λ (reason : Reason). FirstIn (Holds g k) ends (place_of reason)) (λ (reason : Reason). FirstIn (Holds g k) (places g k) (place_of reason)) c.first_end.result
     (λ reason f. first-right (Holds g k) (node_places g k) (points g k ++ ends) (place_of reason) (c.in_default.ensures.none refl)
     (first-right (Holds g k) (points g k) ends (place_of reason) (c.in_default-first_point.ensures.none refl) f)) c.first_end.ensures.first
