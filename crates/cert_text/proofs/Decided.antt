@@ -13,7 +13,7 @@ use Rattle.cert_text.specs.declared.place.Latest.TheVariants as latest
 use Rattle.cert_text.specs.declared.place.Place.{Place}
 use Rattle.cert_text.specs.Answers.{IsTextFor}
 use Rattle.cert_text.specs.Made.{certificate_of}
-use Rattle.cert_text.specs.Entries.{Entry, Version, End, entry_of, entry_after, behind, start_of}
+use Rattle.cert_text.specs.Entries.{Entry, End, entry_of, entry_after, behind, start_of}
 use Rattle.cert_text.specs.Rules.{IsPassed}
 use Rattle.cert_text.specs.Reading.{ArePassed, onto, AreEnded, Passes, IsLineRefused, AcceptsCert, RefusesCert}
 use Rattle.cert_text.specs.Steps.{Say, line_at, Reads, IsUnfinished, Refuses, Accepts, AcceptsAll, RefusesAll}

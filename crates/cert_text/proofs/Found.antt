@@ -1,33 +1,26 @@
 -- What the reader finds at each line is what the rules say of it.
-use Rattle.std.proofs.Common.{◌≡◌, ◌≢◌, ℕ, ◌+◌, ◌<◌, Bool, true, false, cond, List, [], ◌∷◌, ◌++◌, length, Result, Ok, Err, ℤ, pos, refl, sym, ap, subst, ◌∙◌, arith, inl, inr, ◌⊎◌}
-use Rattle.std.specs.Prelude.{codes, nat_lt, drop, neg_ℤ, ◌*ℤ◌}
-use Rattle.std.specs.Str.{bytes_eq}
-use Rattle.text_words.specs.Lines.{Line, Word, lines_of, after_lines}
+use Rattle.std.proofs.Common.{◌≡◌, ◌≢◌, ℕ, ◌+◌, ◌<◌, Bool, true, false, cond, List, [], ◌∷◌, Result, Ok, Err, ℤ, pos, refl, sym, ap, subst, ◌∙◌, arith, inl, inr}
+use Rattle.std.specs.Prelude.{codes, nat_lt}
+use Rattle.text_words.specs.Lines.{Line, Word}
 use Rattle.text_words.specs.Forms.{◌>>=◌, begins, numbers_after, number_at}
-use Rattle.text_words.proofs.Numerals.{bytes_same, bytes_is}
 use Rattle.text_words.proofs.Chains.{bind_assoc, bind_same, begins_is, begins_so, true_false}
 use Rattle.game_model.specs.Game.{GameData, IsGame}
-use Rattle.game_model.specs.Branches.{Branch, mix_total}
+use Rattle.game_model.specs.Branches.{mix_total}
 use Rattle.point_set.specs.Points.{most_share}
-use Rattle.controller.specs.Certificates.{CertificateData, FractionData}
+use Rattle.controller.specs.Certificates.{FractionData}
 use Rattle.cert_text.specs.declared.fault.CertKind.{CertKind}
 use Rattle.cert_text.specs.declared.fault.CertKind.TheVariants as kinds
-use Rattle.cert_text.specs.declared.place.Latest.{Latest}
-use Rattle.cert_text.specs.declared.place.Latest.TheVariants as latest
-use Rattle.cert_text.specs.declared.place.Place.{Place}
 use Rattle.cert_text.specs.Fault.{number_of_kind}
 use Rattle.cert_text.specs.Forms.{version_line, are_words, word_after, fraction_of, at_least}
-use Rattle.cert_text.specs.Entries.{Entry, Version, Outcome, Gap, Lower, Upper, Tail, Sizes, Start, Node, Vector, Mix, Next, Point, Belief, Value, Mixes, Split, End, entry_of, entry_after, version_said, outcome_said, gap_said, bound_said, lower_said, upper_said, tail_said, sizes_said, start_said, node_said, vector_said, mix_said, branch_said, next_said, point_said, belief_said, value_within, value_said, mixes_said, split_said, end_said, in_node, in_point, in_mixes, limits_of, behind, start_of}
+use Rattle.cert_text.specs.Entries.{Entry, Version, Outcome, Gap, Lower, Upper, Tail, Sizes, Start, Node, Vector, Mix, Next, Point, Belief, Value, Mixes, Split, End, entry_of, entry_after, version_said, outcome_said, gap_said, bound_said, lower_said, upper_said, tail_said, sizes_said, start_said, node_said, vector_said, mix_said, branch_said, next_said, point_said, belief_said, value_within, value_said, mixes_said, split_said, end_said, in_node, in_point, in_mixes, limits_of}
 use Rattle.cert_text.specs.Due.{Form, VersionLine, OutcomeLine, GapLine, LowerLine, UpperLine, TailLine, SizesLine, StartLine, FirstNodeLine, NodeLine, VectorLine, MixLine, NextLine, FirstPointLine, PointLine, BeliefLine, ValueLine, StateLine, SplitLine, EndLine, nodes_in, points_in, next_in, total_in, due, after_node, after_point, IsOneOf, name_of}
-use Rattle.cert_text.specs.Rules.{Rule, IsDueLine, Applies, IsPassed, IsLeast}
-use Rattle.cert_text.specs.Reading.{ArePassed, onto, AreEnded, Passes, IsLineRefused, AcceptsCert, RefusesLine, GoesOn, RefusesCert}
-use Rattle.cert_text.specs.Steps.{Say, line_at, Reads, Refuses, Accepts, AcceptsAll, IsLonger, RefusesAll}
-use Rattle.cert_text.proofs.LawOnce.{ended_none}
+use Rattle.cert_text.specs.Rules.{Rule, IsDueLine, Applies, IsLeast}
+use Rattle.cert_text.specs.Reading.{AreEnded}
 use Rattle.cert_text.proofs.LawWords.{version_line-ok, version_line-to}
-use Rattle.cert_text.proofs.OneForm.{Differ, node_apart, point_apart, same_entry}
-use Rattle.cert_text.proofs.Seen.{latest_in, lacking_in, place_in, place_next, place_behind, Kept, kept_first, kept_next}
+use Rattle.cert_text.proofs.OneForm.{Differ, node_apart, point_apart}
+use Rattle.cert_text.proofs.Seen.{lacking_in, place_in, Kept}
 use Rattle.cert_text.proofs.Verdicts.{branch_steps, next_steps, split_steps, gap_checked, lower_checked, upper_checked, tail_checked, sizes_checked, start_checked, first_node_checked, node_checked, vector_checked, mix_checked, next_checked, first_point_checked, point_checked, belief_checked, value_checked, state_checked, split_checked, end_checked}
-use Rattle.cert_text.proofs.Judged.{JudgedAs, IsNumbers, IsFractions, judged_numbers, judged_fraction, judged_outcome, Judged, Others, judged, spared}
+use Rattle.cert_text.proofs.Judged.{JudgedAs, judged_numbers, judged_fraction, judged_outcome, Judged, judged, spared}
 
 -- ---- each form
 

@@ -1,28 +1,27 @@
 -- What the reader finds at a line: it is passed, or the least kind that applies.
-use Rattle.std.proofs.Common.{◌≡◌, ◌≢◌, ℕ, ◌+◌, ◌^◌, ◌<◌, Bool, true, false, cond, ◌&&◌, List, [], ◌∷◌, length, Option, Some, None, Result, Ok, Err, ℤ, pos, refl, sym, ap, subst, ◌∙◌, arith, inl, inr, ◌⊎◌}
-use Rattle.std.specs.Prelude.{codes, nat_lt, ◌==◌}
+use Rattle.std.proofs.Common.{◌≡◌, ◌≢◌, ℕ, ◌<◌, Bool, true, false, cond, ◌&&◌, List, [], ◌∷◌, length, Option, Some, None, Result, Ok, Err, ℤ, refl, sym, ap, subst, ◌∙◌, arith, inl, inr, ◌⊎◌}
+use Rattle.std.specs.Prelude.{codes, ◌==◌}
 use Rattle.std.specs.Option.{ok_or}
 use Rattle.std.specs.Str.{bytes_eq}
 use Rattle.std.proofs.lemmas.Bool.Decides.{nat_tests}
 use Rattle.text_words.specs.Lines.{Line, Word}
 use Rattle.text_words.specs.Numbers.{number_of, numbers_of}
-use Rattle.text_words.specs.Forms.{◌>>=◌, begins, numbers_after, numbers_said}
+use Rattle.text_words.specs.Forms.{◌>>=◌, numbers_after, numbers_said}
 use Rattle.text_words.proofs.Limits.{and_true, true_and}
 use Rattle.text_words.proofs.Numerals.{bytes_same, bytes_is}
 use Rattle.text_words.proofs.Chains.{first_word, later_words, no_words, true_false}
 use Rattle.std.proofs.lemmas.Bool.{eqb-true}
-use Rattle.game_model.specs.Game.{GameData, IsGame}
-use Rattle.game_model.specs.Branches.{Branch}
+use Rattle.game_model.specs.Game.{GameData}
 use Rattle.controller.specs.Certificates.{Closed, Ending, FractionData, Full as FullRun, Trials}
 use Rattle.cert_text.specs.declared.fault.CertKind.{CertKind}
 use Rattle.cert_text.specs.declared.fault.CertKind.TheVariants as kinds
 use Rattle.cert_text.specs.Fault.{number_of_kind}
 use Rattle.cert_text.specs.Text.{outcome_word}
-use Rattle.cert_text.specs.Forms.{version_line, word_after, outcome_of, fraction_of, fraction_from, at_least}
-use Rattle.cert_text.specs.Entries.{Entry, Version, Outcome, Gap, Lower, Upper, Tail, Sizes, Start, Node, Vector, Mix, Next, Point, Belief, Value, Mixes, Split, End}
-use Rattle.cert_text.specs.Due.{Form, VersionLine, OutcomeLine, GapLine, LowerLine, UpperLine, TailLine, SizesLine, StartLine, FirstNodeLine, NodeLine, VectorLine, MixLine, NextLine, FirstPointLine, PointLine, BeliefLine, ValueLine, StateLine, SplitLine, EndLine, due, IsOneOf, name_of, words_after, AreWords, IsOf, IsFraction, SayNumbers, ending_in, entry_in}
-use Rattle.cert_text.specs.Rules.{Rule, IsDueLine, Applies, Says, IsPassed, IsLeast}
-use Rattle.cert_text.proofs.LawWords.{outcome_of-ok, outcome_of-to, word_after-ok, word_after-to, version_line-ok, version_line-to}
+use Rattle.cert_text.specs.Forms.{word_after, outcome_of, fraction_of, fraction_from}
+use Rattle.cert_text.specs.Entries.{Entry, Outcome}
+use Rattle.cert_text.specs.Due.{Form, OutcomeLine, due, IsOneOf, name_of, words_after, AreWords, IsOf, IsFraction, SayNumbers, ending_in, entry_in}
+use Rattle.cert_text.specs.Rules.{Rule, IsDueLine, Applies, IsPassed, IsLeast}
+use Rattle.cert_text.proofs.LawWords.{outcome_of-ok, outcome_of-to}
 use Rattle.cert_text.proofs.OneForm.{same_form, numbers_again}
 use Rattle.cert_text.proofs.Verdicts.{IsRuled, Fails, Checked}
 

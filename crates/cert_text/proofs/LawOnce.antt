@@ -1,5 +1,5 @@
 -- Lines are read in one way: they are refused at one line with one kind, and what is accepted is not refused.
-use Rattle.std.proofs.Common.{◌≡◌, ℕ, ◌+◌, ◌<◌, ◌≤◌, List, [], ◌∷◌, ◌++◌, length, inl, inr, ◌⊎◌, refl, sym, ap, ◌∙◌, subst, arith}
+use Rattle.std.proofs.Common.{◌≡◌, ℕ, List, [], ◌∷◌, ◌++◌, length, inl, inr, ◌⊎◌, refl, sym, ap, ◌∙◌, subst, arith}
 use Rattle.std.specs.Prelude.{◌==◌, if◌then◌else◌}
 use Rattle.std.proofs.lemmas.Bool.{cases_lt}
 use Rattle.text_words.specs.Lines.{Line, lines_of, after_lines}
@@ -8,7 +8,7 @@ use Rattle.game_model.specs.Game.{GameData}
 use Rattle.cert_text.specs.declared.fault.CertKind.{CertKind}
 use Rattle.cert_text.specs.declared.fault.CertKind.TheVariants as kinds
 use Rattle.cert_text.specs.Fault.{number_of_kind}
-use Rattle.cert_text.specs.Entries.{Entry, Version, End}
+use Rattle.cert_text.specs.Entries.{Entry, End}
 use Rattle.cert_text.specs.Due.{Form, due, IsOneOf}
 use Rattle.cert_text.specs.Rules.{IsLeast, IsPassed}
 use Rattle.cert_text.specs.Reading.{ArePassed, onto, AreEnded, Passes, IsLineRefused, AcceptsCert, RefusesLine, RefusesCert}

@@ -1,14 +1,13 @@
 -- A line is of at most one of the forms that are due, and says at most one entry.
-use Rattle.std.proofs.Common.{◌≡◌, ℕ, ◌+◌, Bool, true, false, cond, List, [], ◌∷◌, Some, Ok, Option, Result, ℤ, refl, sym, ap, subst, ◌∙◌, inl, inr, ◌⊎◌, arith}
-use Rattle.std.specs.Prelude.{slice_index, nat_lt, codes}
+use Rattle.std.proofs.Common.{◌≡◌, ℕ, ◌+◌, Bool, true, false, cond, List, [], ◌∷◌, Some, Ok, Option, Result, ℤ, sym, ap, subst, ◌∙◌, inl, inr, arith}
+use Rattle.std.specs.Prelude.{slice_index, nat_lt}
 use Rattle.text_words.specs.Lines.{Line, Word}
-use Rattle.text_words.specs.Numbers.{numbers_of}
 use Rattle.game_model.specs.Game.{GameData}
 use Rattle.controller.specs.Certificates.{FractionData}
 use Rattle.cert_text.specs.declared.fault.CertKind.{CertKind}
 use Rattle.cert_text.specs.Forms.{fraction_of}
 use Rattle.cert_text.specs.Entries.{Entry, Version, Outcome, Gap, Lower, Upper, Tail, Sizes, Start, Node, Vector, Mix, Next, Point, Belief, Value, Mixes, Split, End}
-use Rattle.cert_text.specs.Due.{Form, VersionLine, OutcomeLine, GapLine, LowerLine, UpperLine, TailLine, SizesLine, StartLine, FirstNodeLine, NodeLine, VectorLine, MixLine, NextLine, FirstPointLine, PointLine, BeliefLine, ValueLine, StateLine, SplitLine, EndLine, nodes_in, points_in, next_in, due, IsOneOf, name_of, IsOf, IsFraction, SayNumbers, entry_in}
+use Rattle.cert_text.specs.Due.{Form, VersionLine, OutcomeLine, GapLine, LowerLine, UpperLine, TailLine, NodeLine, NextLine, FirstPointLine, PointLine, StateLine, SplitLine, EndLine, nodes_in, points_in, next_in, due, IsOneOf, name_of, IsFraction, SayNumbers, entry_in}
 use Rattle.cert_text.specs.Rules.{IsDueLine, Says}
 
 -- ---- first words that differ

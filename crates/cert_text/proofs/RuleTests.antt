@@ -1,5 +1,5 @@
 -- The reader's tests: each gives its value exactly where its rule is kept, and else its kind.
-use Rattle.std.proofs.Common.{◌≡◌, ℕ, ◌<◌, Bool, true, false, cond, ◌&&◌, List, [], ◌∷◌, Result, Ok, Err, ℤ, pos, refl, sym, ap, subst, ◌∙◌, inl, inr, ◌⊎◌}
+use Rattle.std.proofs.Common.{◌≡◌, ℕ, Bool, ◌&&◌, List, [], ◌∷◌, Result, Ok, Err, ℤ, pos, refl, sym, subst, inl}
 use Rattle.std.specs.Prelude.{if◌then◌else◌, ◌≤ℤ◌, ◌<ℤ◌, unsigned_abs, int_le, int_lt, ◌==◌}
 use Rattle.std.specs.List.{AllByRecursion, list_all}
 use Rattle.std.proofs.lemmas.Bool.{eqb-true}
@@ -12,9 +12,7 @@ use Rattle.game_model.specs.Game.{IsWithin, AreCoprime}
 use Rattle.controller.specs.Certificates.{most_members}
 use Rattle.cert_text.specs.declared.fault.CertKind.{CertKind}
 use Rattle.cert_text.specs.declared.fault.CertKind.TheVariants as kinds
-use Rattle.cert_text.specs.declared.place.Latest.{Latest}
-use Rattle.cert_text.specs.declared.place.Latest.TheVariants as latest
-use Rattle.cert_text.specs.Entries.{Entry, Version, Outcome, Gap, Lower, Upper, Tail, Sizes, Start, Node, Vector, Mix, Next, Point, Belief, Value, Mixes, Split, End}
+use Rattle.cert_text.specs.Entries.{Entry, Next, Split}
 use Rattle.cert_text.specs.Forms.{at_least, is_due, member_below, few, is_after, later_branch, sums_to_mix, common_divisor, most_belief, belief_total, none_lacks, fits_lack}
 use Rattle.cert_text.specs.Rules.{IsLater}
 use Rattle.cert_text.proofs.Divisor.{coprime_from, coprime_to}

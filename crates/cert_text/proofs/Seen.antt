@@ -1,12 +1,11 @@
 -- The reader's place behind entries, and what each place of the latest node lacks there.
-use Rattle.std.proofs.Common.{◌≡◌, ℕ, zero, suc, ◌+◌, ◌*◌, ◌/◌, ◌%◌, ◌<◌, ◌≤◌, List, [], ◌∷◌, length, replicate, take, Ok, ℤ, pos, refl, sym, ap, subst, ◌∙◌, arith, inl, inr, ◌⊎◌}
-use Rattle.std.specs.Prelude.{◌+ℤ◌, ◌-ℤ◌, ◌≤ℤ◌, slice_index_or}
+use Rattle.std.proofs.Common.{◌≡◌, ℕ, zero, suc, ◌+◌, ◌*◌, ◌/◌, ◌%◌, ◌<◌, List, [], ◌∷◌, replicate, take, Ok, ℤ, pos, refl, sym, ap, subst, ◌∙◌, arith, inl, inr, ◌⊎◌}
+use Rattle.std.specs.Prelude.{◌+ℤ◌, ◌≤ℤ◌, slice_index_or}
 use Rattle.std.specs.List.{AllByRecursion}
 use Rattle.std.proofs.lemmas.Int.{ints}
 use Rattle.std.proofs.lemmas.Bool.{cases_lt}
-use Rattle.std.proofs.lemmas.List.{get_or-take, get_or_past, length-take, length-replicate}
+use Rattle.std.proofs.lemmas.List.{get_or-take, length-take, length-replicate}
 use Rattle.std.proofs.Math.Nat.{mod-lt}
-use Rattle.scaled_num.specs.Sums.{sum_of}
 use Rattle.text_words.specs.Lines.{Line}
 use Rattle.game_model.specs.Branches.{Branch}
 use Rattle.game_model.specs.Game.{GameData, IsGame}
@@ -15,14 +14,14 @@ use Rattle.cert_text.specs.declared.place.Latest.TheVariants as latest
 use Rattle.cert_text.specs.declared.place.Place.{Place}
 use Rattle.cert_text.specs.Entries.{Entry, Version, Outcome, Gap, Lower, Upper, Tail, Sizes, Start, Node, Vector, Mix, Next, Point, Belief, Value, Mixes, Split, End, entry_of, entry_after, place_after, place_at, behind, start_of, limits_of, lacking_of, lacking_less}
 use Rattle.cert_text.specs.Due.{nodes_in, points_in, next_in, total_in, mix_in, steps_in, sum_at, must_reach}
-use Rattle.cert_text.specs.Rules.{IsReached, AreReached, HasPlace}
+use Rattle.cert_text.specs.Rules.{IsReached, AreReached}
 use Rattle.cert_text.specs.Reading.{onto}
 use Rattle.cert_text.proofs.LawGuards.{IsNone}
-use Rattle.cert_text.proofs.LawLists.{weight_at, at_none, none_at}
+use Rattle.cert_text.proofs.LawLists.{at_none, none_at}
 use Rattle.cert_text.proofs.LawParts.{lacks_first, lacks_more, cell_below}
 use Rattle.cert_text.proofs.LawSaid.{version-ok, outcome-ok, gap-ok, lower-ok, upper-ok, tail-ok, sizes-ok, start-ok, node-ok, vector-ok, mix-ok, belief-ok, value-ok, mixes-ok, InNode, in_node-ok, InPoint, in_point-ok, InMixes, in_mixes-ok}
 use Rattle.cert_text.proofs.LawStages.{Lacks, zeros}
-use Rattle.cert_text.proofs.LawNodes.{IsWhole, cell_is, own_of, lack_zero, nothing_lacks}
+use Rattle.cert_text.proofs.LawNodes.{IsWhole, cell_is, lack_zero, nothing_lacks}
 
 -- ---- the place behind entries
 

@@ -1,7 +1,6 @@
 -- What the numbers of a line of each form give: what the line says, or the least kind whose rule they break.
-use Rattle.std.proofs.Common.{◌≡◌, ℕ, ◌+◌, ◌^◌, ◌<◌, ◌≤◌, List, [], ◌∷◌, drop, take, Result, Ok, Err, ℤ, pos, refl, sym, ap, subst, ◌∙◌, arith, inl, inr, ◌⊎◌}
+use Rattle.std.proofs.Common.{◌≡◌, ℕ, ◌+◌, ◌^◌, ◌<◌, ◌≤◌, List, [], ◌∷◌, drop, take, Result, Ok, Err, ℤ, pos, refl, sym, ap, subst, arith, inl, inr}
 use Rattle.std.specs.Prelude.{◌≤ℤ◌, ◌<ℤ◌, ◌*ℤ◌, neg_ℤ, unsigned_abs, slice_index_or}
-use Rattle.std.specs.List.{AllByRecursion}
 use Rattle.std.proofs.lemmas.Int.{ints}
 use Rattle.text_words.specs.Lines.{Line}
 use Rattle.text_words.specs.Forms.{◌>>=◌, number_at, limited, below_limit, each_within}
@@ -14,10 +13,10 @@ use Rattle.controller.specs.Certificates.{FractionData}
 use Rattle.cert_text.specs.declared.fault.CertKind.{CertKind}
 use Rattle.cert_text.specs.declared.fault.CertKind.TheVariants as kinds
 use Rattle.cert_text.specs.Fault.{number_of_kind}
-use Rattle.cert_text.specs.Entries.{Entry, Version, Outcome, Gap, Lower, Upper, Tail, Sizes, Start, Node, Vector, Mix, Next, Point, Belief, Value, Mixes, Split, End, limits_of, place_at}
+use Rattle.cert_text.specs.Entries.{Entry, Gap, Lower, Upper, Tail, Sizes, Start, Node, Vector, Mix, Next, Point, Belief, Value, Mixes, Split, End, limits_of, place_at}
 use Rattle.cert_text.specs.Forms.{at_least, is_due, member_below, few, later_branch, sums_to_mix, most_belief, belief_total, none_lacks, fits_lack}
-use Rattle.cert_text.specs.Due.{Form, VersionLine, OutcomeLine, GapLine, LowerLine, UpperLine, TailLine, SizesLine, StartLine, FirstNodeLine, NodeLine, VectorLine, MixLine, NextLine, FirstPointLine, PointLine, BeliefLine, ValueLine, StateLine, SplitLine, EndLine, nodes_in, points_in, next_in, total_in, branch_in, entry_in}
-use Rattle.cert_text.specs.Rules.{IsBranchWithin, HasPlace, Rule}
+use Rattle.cert_text.specs.Due.{Form, GapLine, LowerLine, UpperLine, TailLine, SizesLine, StartLine, FirstNodeLine, NodeLine, VectorLine, MixLine, NextLine, FirstPointLine, PointLine, BeliefLine, ValueLine, StateLine, SplitLine, EndLine, nodes_in, points_in, next_in, total_in, branch_in, entry_in}
+use Rattle.cert_text.specs.Rules.{IsBranchWithin, Rule}
 use Rattle.cert_text.proofs.RuleTests.{at_least-tests, is_due-tests, member_below-tests, few-tests, sums_to_mix-tests, belief_total-tests, none_lacks-tests, fits_lack-tests, later-tests}
 use Rattle.cert_text.proofs.Seen.{latest_in, lacking_in, Kept, reached_from, reached_to, earlier_from, earlier_to, room_from, room_to}
 

@@ -1,5 +1,5 @@
 -- What each line of a certificate text must keep, and which kinds of fault apply to a line behind those before it.
-use Rattle.std.specs.Prelude.{◌≡◌, ◌≢◌, ◌⊎◌, ℕ, ◌+◌, ◌<◌, ◌^◌, List, [], ◌∷◌, ℤ, pos, neg_ℤ, ◌+ℤ◌, ◌*ℤ◌, ◌≤ℤ◌, ◌<ℤ◌, drop, codes, ⊤}
+use Rattle.std.specs.Prelude.{◌≡◌, ◌≢◌, ◌⊎◌, ℕ, ◌<◌, ◌^◌, List, [], ◌∷◌, ℤ, pos, neg_ℤ, ◌+ℤ◌, ◌*ℤ◌, ◌≤ℤ◌, ◌<ℤ◌, drop, codes, ⊤}
 use Rattle.std.specs.List.{AllByRecursion}
 use Rattle.scaled_num.specs.Sums.{sum_of}
 use Rattle.text_words.specs.Lines.{Line}
@@ -13,7 +13,7 @@ use Rattle.cert_text.specs.declared.fault.CertKind.TheVariants as kinds
 use Rattle.cert_text.specs.Fault.{number_of_kind}
 use Rattle.cert_text.specs.Forms.{most_belief}
 use Rattle.cert_text.specs.Entries.{Entry, Next, Split}
-use Rattle.cert_text.specs.Due.{Form, VersionLine, OutcomeLine, GapLine, LowerLine, UpperLine, TailLine, SizesLine, StartLine, FirstNodeLine, NodeLine, VectorLine, MixLine, NextLine, FirstPointLine, PointLine, BeliefLine, ValueLine, StateLine, SplitLine, EndLine, nodes_in, points_in, next_in, state_in, total_in, sum_at, must_reach, due, IsOneOf, IsOf, SayNumbers, branch_in, entry_in}
+use Rattle.cert_text.specs.Due.{Form, GapLine, LowerLine, UpperLine, TailLine, SizesLine, StartLine, FirstNodeLine, NodeLine, VectorLine, MixLine, NextLine, FirstPointLine, PointLine, BeliefLine, ValueLine, StateLine, SplitLine, nodes_in, points_in, next_in, state_in, total_in, sum_at, must_reach, due, IsOneOf, IsOf, SayNumbers, branch_in, entry_in}
 
 -- numbers of a `next` or `split` line with weights up to the most
 pub record IsBranchWithin (g : GameData) (most : ℤ) (ns : List ℤ) : Type 0 where

@@ -15,11 +15,11 @@ use Rattle.game_text.specs.declared.fault.Kind.{Kind}
 use Rattle.game_text.specs.declared.fault.Kind.TheVariants as kinds
 use Rattle.game_text.specs.Fault.{number_of_kind}
 use Rattle.game_text.specs.Forms.{version_line}
-use Rattle.game_text.specs.Entries.{Entry, Version, Size, Total, Discount, First, Step, Out, End, shape_in, begun_in, sum_in, pair_in, entry_of, version_said, size_said, total_said, discount_said, first_said, step_said, out_said, end_said, row_end_said}
-use Rattle.game_text.specs.Due.{Form, VersionLine, SizeLine, TotalLine, DiscountLine, FirstLine, StepLine, OutLine, EndLine, after_row, due, IsOneOf, name_of, words_after, IsOf, SayNumbers, landing_in, entry_in}
-use Rattle.game_text.specs.Rules.{Rule, IsLater, IsDueLine, Applies, Says, IsPassed, IsLeast}
+use Rattle.game_text.specs.Entries.{Entry, Version, Size, Total, Discount, First, Step, Out, End, shape_in, begun_in, sum_in, entry_of, version_said, size_said, total_said, discount_said, first_said, step_said, out_said, end_said, row_end_said}
+use Rattle.game_text.specs.Due.{Form, VersionLine, SizeLine, TotalLine, DiscountLine, FirstLine, StepLine, OutLine, EndLine, after_row, due, IsOneOf, name_of, words_after, IsOf, SayNumbers, entry_in}
+use Rattle.game_text.specs.Rules.{Rule, IsDueLine, Applies, IsPassed, IsLeast}
 use Rattle.game_text.specs.Reading.{IsUnfinished}
-use Rattle.game_text.proofs.Guards.{IsAfter, eq_true}
+use Rattle.game_text.proofs.Guards.{eq_true}
 use Rattle.game_text.proofs.OneForm.{Differ, row_apart, same_form, numbers_again}
 use Rattle.game_text.proofs.Verdicts.{IsRuled, Fails, Checked, size_checked, total_checked, discount_checked, first_checked, step_checked, out_checked, end_checked}
 

@@ -1,12 +1,11 @@
 -- A line is of at most one of the forms that are due, and says at most one entry.
-use Rattle.std.proofs.Common.{◌≡◌, ℕ, Bool, true, false, cond, List, [], ◌∷◌, Some, Option, ℤ, refl, sym, ap, subst, ◌∙◌, inl, inr, ◌⊎◌, arith}
+use Rattle.std.proofs.Common.{◌≡◌, ℕ, Bool, true, false, cond, List, [], ◌∷◌, Some, Option, ℤ, sym, ap, subst, ◌∙◌, inl, inr, arith}
 use Rattle.std.specs.Prelude.{slice_index, ◌==◌}
-use Rattle.text_words.specs.Lines.{Line, Word}
-use Rattle.text_words.specs.Numbers.{numbers_of}
+use Rattle.text_words.specs.Lines.{Line}
 use Rattle.text_words.proofs.Chains.{first_word, later_words}
 use Rattle.game_model.specs.Game.{triples}
 use Rattle.game_text.specs.Entries.{Entry, Version, Size, Total, Discount, First, Step, Out, End, shape_in, begun_in}
-use Rattle.game_text.specs.Due.{Form, VersionLine, SizeLine, TotalLine, DiscountLine, FirstLine, StepLine, OutLine, EndLine, due, IsOneOf, name_of, SayNumbers, entry_in}
+use Rattle.game_text.specs.Due.{Form, VersionLine, StepLine, OutLine, EndLine, due, IsOneOf, name_of, SayNumbers, entry_in}
 use Rattle.game_text.specs.Rules.{IsDueLine, Says}
 
 -- the names of two forms differ

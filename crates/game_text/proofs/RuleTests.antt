@@ -1,17 +1,14 @@
 -- The reader's tests: each gives its value exactly where its rule is kept, and else its kind.
-use Rattle.std.proofs.Common.{◌≡◌, ℕ, ◌^◌, ◌<◌, Bool, true, ◌&&◌, ◌||◌, eqb, ltb, List, [], ◌∷◌, Option, Some, None, Result, Ok, Err, ℤ, pos, refl, arith, inl, inr, ◌⊎◌}
-use Rattle.std.specs.Prelude.{◌≤ℤ◌, ◌<ℤ◌, ◌+ℤ◌, ◌*ℤ◌, unsigned_abs, max, int_le, int_lt, ◌==◌, nat_lt, if◌then◌else◌}
+use Rattle.std.proofs.Common.{◌≡◌, ℕ, ◌^◌, Bool, true, ◌&&◌, ◌||◌, List, Option, Some, None, ℤ, pos, refl, arith, inl, inr, ◌⊎◌}
+use Rattle.std.specs.Prelude.{◌≤ℤ◌, ◌<ℤ◌, ◌+ℤ◌, ◌*ℤ◌, unsigned_abs, max, int_le, int_lt, ◌==◌, nat_lt}
 use Rattle.std.proofs.lemmas.Int.{ints}
 use Rattle.std.proofs.lemmas.Bool.{eqb-true, ltb-true}
-use Rattle.std.proofs.lemmas.Bool.Decides.{nat_tests}
 use Rattle.scaled_num.specs.Sums.{sum_of}
 use Rattle.text_words.specs.Forms.{is_within}
 use Rattle.text_words.proofs.Limits.{and_true, true_and, or_true, or_last, le_from, le_to, lt_from, lt_to, within_from, within_to}
 use Rattle.text_words.proofs.Chains.{Tests, cond_tests}
-use Rattle.game_model.specs.declared.parts.Landing.{Landing}
 use Rattle.game_model.specs.declared.parts.Shape.{Shape}
 use Rattle.game_model.specs.Game.{IsWithin}
-use Rattle.game_text.specs.declared.fault.Kind.{Kind}
 use Rattle.game_text.specs.declared.fault.Kind.TheVariants as kinds
 use Rattle.game_text.specs.Forms.{within, most_weight, discount_within, total_within, state_at, own_at, informed_at, next_triple, full_row, narrow_reward, later_pair, fits_row}
 use Rattle.game_text.proofs.Guards.{IsAfter, squeezed, eq_true, lt_true}

@@ -1,5 +1,5 @@
 -- The lines that the reader takes are those that are passed, and it stops where a line is refused.
-use Rattle.std.proofs.Common.{◌≡◌, ℕ, ◌<◌, List, [], ◌∷◌, Result, Ok, Err, refl, sym, ap, subst, ◌∙◌, arith, inl, inr, ◌⊎◌}
+use Rattle.std.proofs.Common.{◌≡◌, ℕ, List, [], ◌∷◌, Result, Ok, Err, refl, sym, ap, subst, ◌∙◌, arith, inl, inr, ◌⊎◌}
 use Rattle.std.specs.Prelude.{◌==◌, if◌then◌else◌}
 use Rattle.std.proofs.lemmas.Bool.{cases_lt}
 use Rattle.text_words.specs.Lines.{Line, lines_of}
@@ -9,7 +9,7 @@ use Rattle.game_text.specs.declared.fault.Kind.{Kind}
 use Rattle.game_text.specs.declared.fault.Kind.TheVariants as kinds
 use Rattle.game_text.specs.Fault.{number_of_kind}
 use Rattle.game_text.specs.Text.{IsTextOf}
-use Rattle.game_text.specs.Entries.{Entry, Version, End, entry_of}
+use Rattle.game_text.specs.Entries.{Entry, End, entry_of}
 use Rattle.game_text.specs.Due.{Form, due, IsOneOf}
 use Rattle.game_text.specs.Rules.{IsPassed, IsLeast}
 use Rattle.game_text.specs.Reading.{ArePassed, Passes, IsUnfinished, IsLineRefused, Accepts, Refuses, RefusesAlone}

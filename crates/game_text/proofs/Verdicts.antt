@@ -1,16 +1,15 @@
 -- What the numbers of a line of each form give: what the line says, or the least kind whose rule they break.
-use Rattle.std.proofs.Common.{◌≡◌, ℕ, ◌+◌, ◌^◌, ◌<◌, ◌≤◌, List, [], ◌∷◌, Option, Some, None, Result, Ok, Err, ℤ, pos, refl, sym, subst, arith, inl, inr, ◌⊎◌}
-use Rattle.std.specs.Prelude.{◌≤ℤ◌, ◌+ℤ◌, neg_ℤ, unsigned_abs}
+use Rattle.std.proofs.Common.{◌≡◌, ℕ, ◌+◌, ◌<◌, ◌≤◌, List, Option, Result, Ok, Err, ℤ, pos, refl, sym, subst, arith, inl, inr}
+use Rattle.std.specs.Prelude.{neg_ℤ, unsigned_abs}
 use Rattle.text_words.specs.Forms.{◌>>=◌, number_at, limited, below_limit, each_within}
 use Rattle.text_words.proofs.Chains.{Tests, limited-tests, below_limit-tests, each_within-tests}
-use Rattle.game_model.specs.declared.parts.Landing.{Landing}
 use Rattle.game_text.specs.declared.fault.Kind.{Kind}
 use Rattle.game_text.specs.declared.fault.Kind.TheVariants as kinds
 use Rattle.game_text.specs.Fault.{number_of_kind}
 use Rattle.game_text.specs.Forms.{within, most_total, most_weight, discount_within, total_within, next_triple, full_row, narrow_reward, later_pair, fits_row}
-use Rattle.game_text.specs.Entries.{Entry, Version, Size, Total, Discount, First, Step, Out, End, shape_in, begun_in, sum_in}
-use Rattle.game_text.specs.Due.{Form, VersionLine, SizeLine, TotalLine, DiscountLine, FirstLine, StepLine, OutLine, EndLine, landing_in, entry_in}
-use Rattle.game_text.specs.Rules.{AreSizes, AreStep, IsNextTriple, AreOut, IsLater, Rule}
+use Rattle.game_text.specs.Entries.{Entry, Size, Total, Discount, First, Step, Out, End, shape_in, begun_in, sum_in}
+use Rattle.game_text.specs.Due.{Form, SizeLine, TotalLine, DiscountLine, FirstLine, StepLine, OutLine, EndLine, landing_in, entry_in}
+use Rattle.game_text.specs.Rules.{AreStep, IsNextTriple, AreOut, IsLater, Rule}
 use Rattle.game_text.proofs.Guards.{IsAfter}
 use Rattle.game_text.proofs.RuleTests.{within-tests, discount-tests, total-tests, triple-tests, full-tests, narrow-tests, later-tests, fits-tests}
 

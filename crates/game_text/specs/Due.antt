@@ -1,5 +1,5 @@
 -- The forms of the lines of a game text, and which are due behind the lines before.
-use Rattle.std.specs.Prelude.{◌≡◌, ◌⊎◌, ℕ, ◌==◌, List, [], ◌∷◌, length, Some, ℤ, pos, unsigned_abs, if◌then◌else◌, codes}
+use Rattle.std.specs.Prelude.{◌≡◌, ◌⊎◌, ℕ, ◌==◌, List, [], ◌∷◌, length, Some, ℤ, unsigned_abs, if◌then◌else◌, codes}
 use Rattle.text_words.specs.Lines.{Line, Word}
 use Rattle.text_words.specs.Numbers.{numbers_of}
 use Rattle.text_words.specs.Forms.{number_at}

@@ -11,7 +11,7 @@ use Rattle.game_text.specs.declared.fault.Kind.TheVariants as kinds
 use Rattle.game_text.specs.Fault.{number_of_kind}
 use Rattle.game_text.specs.Forms.{most_total, most_weight, state_at, own_at, informed_at}
 use Rattle.game_text.specs.Entries.{Entry, Out, shape_in, begun_in, sum_in}
-use Rattle.game_text.specs.Due.{Form, VersionLine, SizeLine, TotalLine, DiscountLine, FirstLine, StepLine, OutLine, EndLine, due, IsOneOf, IsOf, SayNumbers, landing_in, entry_in}
+use Rattle.game_text.specs.Due.{Form, SizeLine, TotalLine, DiscountLine, FirstLine, StepLine, OutLine, EndLine, due, IsOneOf, IsOf, SayNumbers, landing_in, entry_in}
 
 -- a number from 0 below a limit
 abbrev pub IsBelow : ℕ → ℤ → Type 0
