@@ -6,8 +6,9 @@ use Rattle.controller.specs.Certificates.{CertificateData}
 use Rattle.cert_text.specs.declared.fault.CertKind.TheVariants as kinds
 use Rattle.cert_text.specs.declared.place.Place.{Place}
 use Rattle.cert_text.specs.Entries.{start_of}
-use Rattle.cert_text.specs.Reading.{RefusesCert}
-use Rattle.cert_text.specs.Answers.{IsDraftOf, IsTextFor}
+use Rattle.cert_text.specs.Steps.{RefusesAll}
+use Rattle.cert_text.specs.Answers.{IsTextFor}
+use Rattle.cert_text.specs.Steps.{IsDraftOf}
 use Rattle.cert_text.specs.Draft.{AreFit}
 use Rattle.point_set.specs.Points.{PointData, PointFits}
 use Rattle.std.specs.List.{AllByRecursion}
@@ -20,7 +21,7 @@ whole_text g bytes start k count rest game is none d =
     subst (λ (x : CertificateData). IsTextFor g x bytes) (sym e.3) (lines_are_texts g bytes e.0 game (whole_accepted g bytes e.0 rest none e.1 e.2))
 
 -- bytes are left behind the `end` line
-pub goes_on : (g : GameData) (bytes : List ℕ) (start : Place) (k : CertificateData) (count : ℕ) (rest : List ℕ) → start ≡ start_of g → 0 < length rest → IsDraftOf start bytes k count rest → RefusesCert g bytes (count + 1) kinds.Trailing
+pub goes_on : (g : GameData) (bytes : List ℕ) (start : Place) (k : CertificateData) (count : ℕ) (rest : List ℕ) → start ≡ start_of g → 0 < length rest → IsDraftOf start bytes k count rest → RefusesAll g bytes (count + 1) kinds.Trailing
 goes_on g bytes start k count rest is some d =
     let e = subst (λ (p : Place). IsDraftOf p bytes k count rest) is d in
     inr (e.0, lines_of rest, e.1, omega (arith, some, ap length e.2), omega (arith, e.4), refl)

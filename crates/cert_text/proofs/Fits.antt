@@ -11,7 +11,7 @@ use Rattle.cert_text.specs.declared.place.Latest.TheVariants as latest
 use Rattle.cert_text.specs.declared.place.Place.{Place}
 use Rattle.cert_text.specs.Entries.{Entry, entry_after}
 use Rattle.cert_text.specs.View.{IsPlace, FitsPlace}
-use Rattle.cert_text.specs.Reading.{line_at}
+use Rattle.cert_text.specs.Steps.{line_at}
 use Rattle.cert_text.proofs.Reading.{line_at-ok}
 use Rattle.cert_text.proofs.LawSaid.{version-ok, outcome-ok, gap-ok, lower-ok, upper-ok, tail-ok, sizes-ok, start-ok, node-ok, vector-ok, mix-ok, belief-ok, value-ok, mixes-ok, InNode, in_node-ok, InPoint, in_point-ok, InMixes, in_mixes-ok}
 

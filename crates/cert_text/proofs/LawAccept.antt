@@ -14,7 +14,7 @@ use Rattle.cert_text.specs.Answers.{IsTextFor}
 use Rattle.cert_text.specs.Text.{certificate_text, line_of}
 use Rattle.cert_text.specs.Entries.{Entry, place_after, behind, start_of}
 use Rattle.cert_text.specs.Made.{certificate_of, with_entries}
-use Rattle.cert_text.specs.Reading.{Say, AcceptsCert}
+use Rattle.cert_text.specs.Steps.{Say, AcceptsAll}
 use Rattle.cert_text.proofs.LawStages.{Head, Stage, AtNothing, AtVersion, AtOutcome, AtGap, AtLower, AtUpper, AtTail, AtSizes, AtStart, AtNode, AtVector, AtSteps, AtPoint, AtBelief, AtMixes, AtSplits, AtEnd, place_of, made_of, head_bytes, nodes_bytes, points_bytes, text_of, Known, IsDone}
 use Rattle.cert_text.proofs.LawSteps.{Goes, step}
 
@@ -96,13 +96,13 @@ say_long place [] (e ∷ es) say = absurd say
 say_long place (line ∷ lines) [] say = absurd say
 say_long place (line ∷ lines) (e ∷ es) say = omega (arith, say_long (place_after place e) lines es say.1)
 
-pub accepted_bytes : (g : GameData) (bytes : List ℕ) (es : List Entry) (a : AcceptsCert g bytes es) → bytes ≡ lines_text a.0.0.0
+pub accepted_bytes : (g : GameData) (bytes : List ℕ) (es : List Entry) (a : AcceptsAll g bytes es) → bytes ≡ lines_text a.0.0.0
 accepted_bytes g bytes es a =
     let front = a.0.0.0 in
     let p = lines_of-front bytes front [] a.0.0.1 in
     let none : after_lines (length front) bytes ≡ [] = ap (λ (n : ℕ). after_lines n bytes) (say_long (start_of g) front es a.0.0.2) ∙ a.1 in
     p.0 ∙ ap (λ (x : List ℕ). lines_text front ++ x) none ∙ append-nil (lines_text front)
 
-pub lines_are_texts : (g : GameData) (bytes : List ℕ) (es : List Entry) → IsGame g → AcceptsCert g bytes es → IsTextFor g (certificate_of g es) bytes
+pub lines_are_texts : (g : GameData) (bytes : List ℕ) (es : List Entry) → IsGame g → AcceptsAll g bytes es → IsTextFor g (certificate_of g es) bytes
 lines_are_texts g bytes es game a =
     subst (IsTextFor g (certificate_of g es)) (sym (accepted_bytes g bytes es a)) (say_text g a.0.0.0 es game a.0.0.2 a.0.1)

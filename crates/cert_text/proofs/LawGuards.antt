@@ -19,10 +19,10 @@ use Rattle.cert_text.proofs.Divisor.{coprime_from, coprime_to}
 
 -- the tests of numbers
 
-squeezed : (x y : ℤ) → IsWithin y y x → x ≡ y
+pub squeezed : (x y : ℤ) → IsWithin y y x → x ≡ y
 squeezed x y h = omega (arith, ints, h.0, h.1)
 
-same_within : (x y : ℤ) → x ≡ y → IsWithin y y x
+pub same_within : (x y : ℤ) → x ≡ y → IsWithin y y x
 same_within x y e = (omega (arith, ints, e), omega (arith, ints, e))
 
 pub at_least-ok : (low x y : ℤ) → at_least low x ≡ Ok y → (low ≤ℤ y) × (x ≡ y)
@@ -81,10 +81,10 @@ IsLater _ own seen member = Unit {0}
 lt_true : (a b : ℕ) → a < b → ltb a b ≡ true
 lt_true a b h = grind (arith, nat_tests)
 
-eq_true : (a b : ℕ) → a ≡ b → eqb a b ≡ true
+pub eq_true : (a b : ℕ) → a ≡ b → eqb a b ≡ true
 eq_true a b h = grind (arith, nat_tests)
 
-after_from : (a o k own seen member : ℕ) → is_after a o k own seen (pos member) ≡ true → IsAfter a o k own seen member
+pub after_from : (a o k own seen member : ℕ) → is_after a o k own seen (pos member) ≡ true → IsAfter a o k own seen member
 after_from a o k own seen member h = elim (or_true (nat_lt a own) ((a == own) && (nat_lt o seen || ((o == seen) && int_lt (pos k) (pos member)))) h) [
   | inl e ↦ inl (ltb-true a own e)
   | inr e ↦ let p = and_true (a == own) (nat_lt o seen || ((o == seen) && int_lt (pos k) (pos member))) e in
@@ -96,7 +96,7 @@ after_from a o k own seen member h = elim (or_true (nat_lt a own) ((a == own) &&
       ]
 ]
 
-after_to : (a o k own seen member : ℕ) → IsAfter a o k own seen member → is_after a o k own seen (pos member) ≡ true
+pub after_to : (a o k own seen member : ℕ) → IsAfter a o k own seen member → is_after a o k own seen (pos member) ≡ true
 after_to a o k own seen member (inl l) = rw (lt_true a own l) refl
 after_to a o k own seen member (inr (e, inl l)) =
     or_last (nat_lt a own) ((a == own) && (nat_lt o seen || ((o == seen) && int_lt (pos k) (pos member))))
@@ -145,11 +145,11 @@ belief_total-to parts h c =
 abbrev pub IsNone : ℤ → Type 0
 IsNone x = x ≡ pos 0
 
-none_from : (xs : List ℤ) → AllByRecursion (IsWithin (pos 0) (pos 0)) xs → AllByRecursion IsNone xs
+pub none_from : (xs : List ℤ) → AllByRecursion (IsWithin (pos 0) (pos 0)) xs → AllByRecursion IsNone xs
 none_from [] h = tt
 none_from (x ∷ xs) h = (squeezed x (pos 0) h.0, none_from xs h.1)
 
-none_to : (xs : List ℤ) → AllByRecursion IsNone xs → AllByRecursion (IsWithin (pos 0) (pos 0)) xs
+pub none_to : (xs : List ℤ) → AllByRecursion IsNone xs → AllByRecursion (IsWithin (pos 0) (pos 0)) xs
 none_to [] h = tt
 none_to (x ∷ xs) h = (same_within x (pos 0) h.0, none_to xs h.1)
 

@@ -105,10 +105,10 @@ whole_on g m back b rest h a o la lo = move_by back b rest a o ((b.own == a) && 
 
 -- ---- what is lacking
 
-cell_is : (n i : ℕ) → i / n * n + i % n ≡ i
+pub cell_is : (n i : ℕ) → i / n * n + i % n ≡ i
 cell_is n i = let e : i / n * n ≡ n * (i / n) = omega arith in omega (arith, e, div-add-mod i n)
 
-lack_zero : (g : GameData) (m : List ℤ) (back : List Branch) (L : List ℤ) (i : ℕ) → IsGame g → Lacks g m back L → i < g.shape.own_actions * g.shape.observations
+pub lack_zero : (g : GameData) (m : List ℤ) (back : List Branch) (L : List ℤ) (i : ℕ) → IsGame g → Lacks g m back L → i < g.shape.own_actions * g.shape.observations
     → weight_at back (i / g.shape.observations) (i % g.shape.observations) ≡ slice_index_or m (i / g.shape.observations) (pos 0) → slice_index_or L i (pos 0) ≡ pos 0
 lack_zero g m back L i game k l e =
     let n = g.shape.observations in
@@ -118,11 +118,11 @@ lack_zero g m back L i game k l e =
     let same : slice_index_or L (i / n * n + i % n) (pos 0) ≡ slice_index_or L i (pos 0) = ap (λ (x : ℕ). slice_index_or L x (pos 0)) (cell_is n i) in
     omega (arith, ints, at, same, e)
 
-own_of : (g : GameData) (i : ℕ) → IsGame g → i < g.shape.own_actions * g.shape.observations → i / g.shape.observations < g.shape.own_actions
+pub own_of : (g : GameData) (i : ℕ) → IsGame g → i < g.shape.own_actions * g.shape.observations → i / g.shape.observations < g.shape.own_actions
 own_of g i game l = (div-lt_iff_lt-mul {k = g.shape.observations} {x = i} {y = g.shape.own_actions} (omega (arith, game.shape.observations))).1 l
 
 -- behind all steps nothing lacks
-nothing_lacks : (g : GameData) (m : List ℤ) (back : List Branch) (L : List ℤ) → IsGame g → Lacks g m back L → IsWhole g m back [] → AllByRecursion IsNone L
+pub nothing_lacks : (g : GameData) (m : List ℤ) (back : List Branch) (L : List ℤ) → IsGame g → Lacks g m back L → IsWhole g m back [] → AllByRecursion IsNone L
 nothing_lacks g m back L game k whole =
     let n = g.shape.observations in
     none_at L (λ i l. elim (cases_lt i (g.shape.own_actions * n)) [

@@ -14,6 +14,8 @@ use Rattle.cert_text.specs.Text.{certificate_text}
 use Rattle.cert_text.specs.Entries.{Entry, Version, Outcome, Gap, Lower, Upper, Tail, Sizes, Start, Node, entry_of, entry_after, start_of}
 use Rattle.cert_text.specs.Made.{certificate_of}
 use Rattle.cert_text.specs.Reading.{AcceptsCert}
+use Rattle.cert_text.specs.Steps.{AcceptsAll}
+use Rattle.cert_text.proofs.Decided.{accepts_from}
 use Rattle.cert_text.proofs.LawOnce.{accepted_once}
 use Rattle.cert_text.proofs.LawWords.{IsBrief}
 use Rattle.cert_text.proofs.LawSaid.{words_in, version-to, outcome-to, gap-to, lower-to, upper-to, tail-to, sizes-to, start-to, node-to, GapFits}
@@ -124,7 +126,7 @@ no_lines : lines_of [] ≡ []
 unfolding lines_of
 no_lines = refl
 
-lines_accepted : (g : GameData) (es : List Entry) (k : CertificateData) (w : Writes g AtNothing k es) → AcceptsCert g (lines_text (map words_in es)) es
+lines_accepted : (g : GameData) (es : List Entry) (k : CertificateData) (w : Writes g AtNothing k es) → AcceptsAll g (lines_text (map words_in es)) es
 lines_accepted g es k w =
     let lines = map words_in es in
     let e = append-nil (lines_text lines) in
@@ -135,7 +137,7 @@ lines_accepted g es k w =
 -- the text of this certificate as it is read
 pub record ReadAs (g : GameData) (bytes : List ℕ) (k : CertificateData) : Type 0 where
   pub entries : List Entry
-  pub accepts : AcceptsCert g bytes entries
+  pub accepts : AcceptsAll g bytes entries
   pub made : certificate_of g entries ≡ k
 
 text_reads : (g : GameData) (bytes : List ℕ) (k : CertificateData) → IsGame g → IsTextFor g k bytes → ReadAs g bytes k
@@ -146,14 +148,13 @@ text_reads g bytes k game t =
     let lines = map words_in es in
     let text = say_text g lines es game w.say w.end in
     let same : lines_text lines ≡ bytes = text.1 ∙ ap certificate_text w.made ∙ sym t.1 in
-    record { entries = es; accepts = subst (λ (x : List ℕ). AcceptsCert g x es) same (lines_accepted g es k w); made = w.made }
+    record { entries = es; accepts = subst (λ (x : List ℕ). AcceptsAll g x es) same (lines_accepted g es k w); made = w.made }
 
 pub texts_are_read : (g : GameData) (bytes : List ℕ) (k : CertificateData) → IsGame g → IsTextFor g k bytes → (entries : List Entry) × AcceptsCert g bytes entries × (certificate_of g entries ≡ k)
-texts_are_read g bytes k game t = let r = text_reads g bytes k game t in (r.entries, r.accepts, r.made)
+texts_are_read g bytes k game t = let r = text_reads g bytes k game t in (r.entries, accepts_from g bytes r.entries game r.accepts, r.made)
 
 pub one_certificate : (g : GameData) (bytes : List ℕ) (k m : CertificateData) → IsGame g → IsTextFor g k bytes → IsTextFor g m bytes → k ≡ m
 one_certificate g bytes k m game t u =
-    let a = text_reads g bytes k game t in
-    let b = text_reads g bytes m game u in
-    let same = accepted_once (start_of g) (lines_of bytes) a.entries [] b.entries [] a.accepts.0 b.accepts.0 in
-    sym a.made ∙ ap (λ (es : List Entry). certificate_of g es) same.0 ∙ b.made
+    let a = texts_are_read g bytes k game t in
+    let b = texts_are_read g bytes m game u in
+    sym a.2 ∙ ap (λ (es : List Entry). certificate_of g es) (accepted_once g bytes a.0 b.0 a.1 b.1) ∙ b.2

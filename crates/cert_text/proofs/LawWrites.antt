@@ -15,7 +15,7 @@ use Rattle.cert_text.specs.declared.place.Place.{Place}
 use Rattle.cert_text.specs.declared.place.Latest.TheVariants as latest
 use Rattle.cert_text.specs.Entries.{Entry, Version, Outcome, entry_of, behind, limits_of}
 use Rattle.cert_text.specs.Made.{with_entries}
-use Rattle.cert_text.specs.Reading.{Say}
+use Rattle.cert_text.specs.Steps.{Say}
 use Rattle.cert_text.proofs.LawWords.{IsBrief, fraction_written}
 use Rattle.cert_text.proofs.LawSaid.{words_in, fraction_words, branch_numbers, ValueFits}
 use Rattle.cert_text.proofs.LawStages.{Stage, place_of, made_of, Known}

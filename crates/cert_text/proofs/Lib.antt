@@ -1,6 +1,7 @@
 pub mod Below
 pub mod NumberKinds
 pub mod Divisor
+pub mod OneForm
 pub mod LawOnce
 pub mod LawGuards
 pub mod LawWords
@@ -13,6 +14,12 @@ pub mod LawAccept
 pub mod LawWrites
 pub mod LawNodes
 pub mod LawPoints
+pub mod Seen
+pub mod RuleTests
+pub mod Verdicts
+pub mod Judged
+pub mod Found
+pub mod Decided
 pub mod LawRead
 pub mod Reading
 pub mod Fits

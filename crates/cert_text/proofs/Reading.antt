@@ -9,9 +9,9 @@ use Rattle.cert_text.specs.declared.fault.LineFault.TheVariants.{Refused, OutOfM
 use Rattle.cert_text.specs.declared.fault.CertFault.{CertFault}
 use Rattle.cert_text.specs.declared.place.Place.{Place}
 use Rattle.cert_text.specs.Fault.{at_line, Fails, Gives}
-use Rattle.cert_text.specs.Answers.{IsFaultOf}
+use Rattle.cert_text.specs.Steps.{IsFaultOf}
 use Rattle.cert_text.specs.Entries.{Entry, entry_of, place_after, behind}
-use Rattle.cert_text.specs.Reading.{line_at, Say, Reads, IsUnfinished}
+use Rattle.cert_text.specs.Steps.{line_at, Say, Reads, IsUnfinished}
 
 pub reads_none : (place : Place) (lines : List Line) → Reads place lines [] lines
 reads_none place lines = ([], refl, tt)

@@ -8,7 +8,7 @@ use Rattle.cert_text.specs.declared.place.Limits.{Limits}
 use Rattle.cert_text.specs.declared.place.Place.{Place}
 use Rattle.cert_text.specs.Entries.{Entry, behind, place_after}
 use Rattle.cert_text.specs.Made.{blank, with_entry, with_entries}
-use Rattle.cert_text.specs.Reading.{Reads, line_at}
+use Rattle.cert_text.specs.Steps.{Reads, line_at}
 use Rattle.cert_text.proofs.Reading.{reads_none, reads_more, behind-push}
 
 pub record SoFar (start : Place) (text : List ℕ) (k : CertificateData) (line : ℕ) (place : Place) (rest : List ℕ) : Type 0 where

@@ -5,7 +5,7 @@ use Rattle.text_words.specs.Lines.{Line, lines_of, after_lines}
 use Rattle.game_model.specs.Game.{GameData, IsGame}
 use Rattle.game_model.proofs.Worth.{span-small}
 use Rattle.cert_text.specs.Entries.{Entry, limits_of, start_of}
-use Rattle.cert_text.specs.Reading.{Accepts, AcceptsCert}
+use Rattle.cert_text.specs.Steps.{Accepts, AcceptsAll}
 use Rattle.cert_text.specs.View.{AreLimits}
 
 pub limits_kept : (g : GameData) → IsGame g → AreLimits (limits_of g)
@@ -28,6 +28,6 @@ unfolding lines_of
 no_lines = refl
 
 pub whole_accepted : (g : GameData) (bytes : List ℕ) (entries : List Entry) (rest : List ℕ) → rest ≡ [] → Accepts (start_of g) (lines_of bytes) entries (lines_of rest)
-    → rest ≡ after_lines (length entries) bytes → AcceptsCert g bytes entries
+    → rest ≡ after_lines (length entries) bytes → AcceptsAll g bytes entries
 whole_accepted g bytes entries rest none accepts after =
     (subst (λ (ls : List Line). Accepts (start_of g) (lines_of bytes) entries ls) (ap lines_of none ∙ no_lines) accepts, sym after ∙ none)

@@ -1,5 +1,5 @@
 -- What makes acceptance and refusal exact.
-use Rattle.std.specs.Prelude.{◌≡◌, ℕ, List}
+use Rattle.std.specs.Prelude.{◌≡◌, ◌⊎◌, ℕ, List}
 use Rattle.game_model.specs.Game.{GameData, IsGame}
 use Rattle.controller.specs.Certificates.{CertificateData}
 use Rattle.cert_text.specs.declared.fault.CertKind.{CertKind}
@@ -35,3 +35,9 @@ abbrev pub AcceptedIsNotRefused : Type 0
 AcceptedIsNotRefused =
     (g : GameData) (bytes : List ℕ) (entries : List Entry) (number : ℕ) (kind : CertKind) →
     AcceptsCert g bytes entries → RefusesCert g bytes number kind → ⊥
+
+-- bytes are the text of a certificate that fits the game, or are refused
+abbrev pub Decided : Type 0
+Decided =
+    (g : GameData) (bytes : List ℕ) → IsGame g →
+    ((k : CertificateData) × IsTextFor g k bytes) ⊎ ((number : ℕ) × (kind : CertKind) × RefusesCert g bytes number kind)

@@ -2,7 +2,10 @@ pub mod Text
 pub mod Fault
 pub mod Forms
 pub mod Entries
+pub mod Due
+pub mod Rules
 pub mod View
+pub mod Steps
 pub mod Reading
 pub mod Made
 pub mod Answers

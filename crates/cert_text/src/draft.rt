@@ -1,3 +1,4 @@
+//! A certificate in the making, and what one more line adds to it.
 ghost use Rattle.std.specs.Prelude.{◌≡◌, ◌++◌, [], ◌∷◌, map, OnOk, IfErr};
 ghost use Rattle.cert_text.specs.declared.fault.CertFault.TheVariants as certs;
 ghost use Rattle.alpha_set.specs.Members.{node_data};

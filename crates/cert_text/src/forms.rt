@@ -1,3 +1,4 @@
+//! The words and numbers of one line.
 ghost use Rattle.std.specs.Prelude.{◌≡◌, ◌==◌, length, map, IfOk};
 ghost use Rattle.std.specs.List.{slice_split};
 ghost use Rattle.cert_text.specs.Fault.{Gives, seen};

@@ -1,3 +1,4 @@
+//! The limits, orders and sums that the numbers of a line keep.
 ghost use Rattle.std.specs.Prelude.{◌≡◌, ◌==◌, ◌≤◌, length, IfOk, OnOk, All, pos, ◌≤ℤ◌};
 ghost use Rattle.cert_text.specs.Forms.{at_least, is_due, member_below, few, is_after, later_branch, sums_to_mix, common_divisor, belief_total, none_lacks, fits_lack};
 

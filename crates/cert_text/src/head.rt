@@ -1,3 +1,4 @@
+//! The lines before the nodes, and the `end` line.
 ghost use Rattle.std.specs.Prelude.{◌≡◌, ◌≤◌, length, map, IfOk, pos, ◌≤ℤ◌};
 ghost use Rattle.cert_text.specs.Fault.{Gives};
 ghost use Rattle.cert_text.specs.View.{entry_in, fraction_is};

@@ -1,4 +1,5 @@
-ghost use Rattle.cert_text.specs.Laws.{AcceptedIsNotRefused, LinesAreTexts, OneCertificate, RefusedOnce, TextsAreRead};
+//! Laws that make acceptance and refusal exact.
+ghost use Rattle.cert_text.specs.Laws.{AcceptedIsNotRefused, Decided, LinesAreTexts, OneCertificate, RefusedOnce, TextsAreRead};
 
 /// A law: lines that are accepted are the text of the certificate that they say, which fits the game.
 pub fn law_accepted()
@@ -23,4 +24,9 @@ pub fn law_refused_once()
 /// A law: what is accepted is not refused.
 pub fn law_not_refused()
     ensures { AcceptedIsNotRefused }
+{}
+
+/// A law: bytes are the text of a certificate that fits the game, or are refused.
+pub fn law_decided()
+    ensures { Decided }
 {}

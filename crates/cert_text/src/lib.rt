@@ -14,6 +14,6 @@ mod reader;
 mod texts;
 
 pub use fault::{CertFault, CertKind};
-pub use laws::{law_accepted, law_not_refused, law_one, law_read, law_refused_once};
+pub use laws::{law_accepted, law_decided, law_not_refused, law_one, law_read, law_refused_once};
 pub use printing::print;
 pub use texts::read;

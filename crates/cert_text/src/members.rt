@@ -1,3 +1,4 @@
+//! The lines of nodes and points.
 ghost use Rattle.std.specs.Prelude.{◌≡◌, ◌≤◌, ◌<◌, length, map, drop, IfOk, pos, ◌≤ℤ◌, ◌*ℤ◌, neg_ℤ, All};
 ghost use Rattle.game_model.specs.Branches.{mix_total};
 ghost use Rattle.point_set.specs.Points.{most_share};

@@ -1,3 +1,4 @@
+//! Where the reading stands, and what a line says.
 use controller::Outcome;
 
 /// The most places of a node: pairs of an own action and an observation.

@@ -1,11 +1,12 @@
+//! Reads line by line, each at its place, into a draft.
 ghost use Rattle.std.specs.Prelude.{◌≡◌, ◌+◌, ◌*◌, ◌/◌, ◌^◌, ◌<◌, ◌≤◌, ℕ, List, [], ◌∷◌, length, map, IfOk, IfErr, ◌==◌, All, pos, ◌≤ℤ◌, slice_index_or};
 ghost use Rattle.std.specs.List.{after_first};
 ghost use Rattle.scaled_num.specs.Sums.{below, sum_of};
 ghost use Rattle.text_words.specs.Lines.{after_lines, lines_of};
 ghost use Rattle.cert_text.specs.Fault.{Gives};
 ghost use Rattle.cert_text.specs.View.{IsPlace, FitsPlace, entry_in};
-ghost use Rattle.cert_text.specs.Reading.{Accepts, IsUnfinished, first_of, line_at};
-ghost use Rattle.cert_text.specs.Answers.{IsDraftOf, IsFaultOf};
+ghost use Rattle.cert_text.specs.Steps.{Accepts, IsUnfinished, first_of, line_at};
+ghost use Rattle.cert_text.specs.Steps.{IsDraftOf, IsFaultOf};
 ghost use Rattle.cert_text.specs.Draft.{draft_data};
 ghost use Rattle.cert_text.specs.Entries.{entry_of, in_node, in_point, in_mixes, lacking_less, lacking_of, place_after};
 
@@ -106,7 +107,7 @@ fn first_words(alloc: Global, text: &[u8]) -> Result<(Vec<&[u8]>, &[u8]), LineFa
 }
 
 /// What the next line says at a place, and what follows it.
-#[tactic(auto, unfolding(crate::specs::Reading::line_at))]
+#[tactic(auto, unfolding(crate::specs::Steps::line_at))]
 fn next_entry<'a>(
     alloc: Global,
     place: &Place,

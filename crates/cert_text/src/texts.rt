@@ -1,5 +1,7 @@
+//! Reads the whole text of a certificate for a game.
 ghost use Rattle.std.specs.Prelude.{◌≡◌, ◌^◌, ◌≤◌, length, map, IfOk, IfErr};
 ghost use Rattle.cert_text.specs.Answers.{IsNoText, IsRefused, IsTextFor};
+ghost use Rattle.cert_text.specs.Steps.{IsStopped};
 ghost use Rattle.cert_text.specs.Entries.{limits_of, start_of};
 ghost use Rattle.std.specs.List.{AllByRecursion};
 ghost use Rattle.alpha_set.specs.Members.{node_data};
@@ -58,7 +60,7 @@ fn start(game: &Game) -> Place
 fn read_whole(alloc: Global, game: &Game, bytes: &[u8]) -> Result<Draft, CertFault>
     requires { length bytes.now ≤ 2 ^ 27 }
     ensures text { IfOk result (λ draft. IsTextFor game.now (draft_data draft) bytes.now) }
-    ensures refused { IfErr result (IsRefused game.now bytes.now) }
+    ensures refused { IfErr result (IsStopped game.now bytes.now) }
 {
     law_game(game);
     let (draft, lines, rest) = read_draft(alloc, start(game), bytes)?;

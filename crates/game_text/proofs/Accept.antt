@@ -13,7 +13,7 @@ use Rattle.game_text.specs.declared.fault.Kind.{Kind}
 use Rattle.game_text.specs.Forms.{most_total}
 use Rattle.game_text.specs.Text.{scaled, text_of, IsTextOf}
 use Rattle.game_text.specs.Entries.{Entry, Version, Size, Total, Discount, First, Step, Out, End, shape_in}
-use Rattle.game_text.specs.Reading.{Reads, Accepts, Refuses, RefusesAlone, GoesOn}
+use Rattle.game_text.specs.Steps.{Reads, ReadsAll, Halts, HaltsAlone, GoesPast}
 use Rattle.game_text.specs.Built.{rewards_in, onto_last, rows_in}
 use Rattle.game_text.proofs.Said.{words_in, name_in, numbers_in, small_discount, small_weights, small_weight}
 use Rattle.game_text.specs.Forms.{state_at, own_at, informed_at}
@@ -57,7 +57,7 @@ finished_text entries f p rest =
           ∙ ap (text_of g) (sym p.same));
     }
 
-pub lines_are_texts : (text : List ℕ) (count : ℕ) (entries : List Entry) (rest : List Line) → Accepts (lines_of text) count entries rest → (g : GameData) × IsTextOf g text (after_lines count text)
+pub lines_are_texts : (text : List ℕ) (count : ℕ) (entries : List Entry) (rest : List Line) → ReadsAll (lines_of text) count entries rest → (g : GameData) × IsTextOf g text (after_lines count text)
 lines_are_texts text count entries rest reads =
     let b = accepted_bytes text count (End ∷ entries) rest reads in
     let f = finished entries b.1 in
@@ -115,7 +115,7 @@ entries_of g first = spelled g.shape first (rewards_back g) (rows_back g)
 
 pub record ReadAs (g : GameData) (text rest : List ℕ) (t : IsTextOf g text rest) : Type 0 where
   pub count : ℕ
-  pub reads : Accepts (lines_of text) count (entries_of g (scaled t.times g.first)) (lines_of rest)
+  pub reads : ReadsAll (lines_of text) count (entries_of g (scaled t.times g.first)) (lines_of rest)
   pub after : after_lines count text ≡ rest
 
 pub text_reads : (g : GameData) (text rest : List ℕ) (t : IsTextOf g text rest) → ReadAs g text rest t
@@ -130,7 +130,7 @@ text_reads g text rest t =
     let p = run_reads (End ∷ entries) rest run in
     record {
       count = length (map words_in (End ∷ entries));
-      reads = subst (λ (x : List ℕ). Accepts (lines_of x) (length (map words_in (End ∷ entries))) entries (lines_of rest)) (sym same) p.0;
+      reads = subst (λ (x : List ℕ). ReadsAll (lines_of x) (length (map words_in (End ∷ entries))) entries (lines_of rest)) (sym same) p.0;
       after = ap (after_lines (length (map words_in (End ∷ entries)))) same ∙ p.1;
     }
 
@@ -208,23 +208,23 @@ texts_are_games text rest g h other t u =
 
 -- what is accepted is not refused, and a text is refused once
 
-pub text_not_refused : (text rest : List ℕ) (g : GameData) (number : ℕ) (kind : Kind) → IsTextOf g text rest → Refuses (lines_of text) number kind → ⊥
+pub text_not_refused : (text rest : List ℕ) (g : GameData) (number : ℕ) (kind : Kind) → IsTextOf g text rest → Halts (lines_of text) number kind → ⊥
 text_not_refused text rest g number kind t r =
     let a = text_reads g text rest t in
     not_both (lines_of text) a.count (entries_of g (scaled t.times g.first)) (lines_of rest) number kind a.reads r
 
-goes_not_on : (text : List ℕ) (g : GameData) (t : IsTextOf g text []) (number : ℕ) (kind : Kind) → GoesOn text number kind → ⊥
+goes_not_on : (text : List ℕ) (g : GameData) (t : IsTextOf g text []) (number : ℕ) (kind : Kind) → GoesPast text number kind → ⊥
 goes_not_on text g t number kind more =
     let a = text_reads g text [] t in
     let same = accepted_once (lines_of text) a.count more.0 (entries_of g (scaled t.times g.first)) more.1 (lines_of []) more.2 a.reads more.3 in
     let none : after_lines more.0 text ≡ [] = ap (λ (n : ℕ). after_lines n text) (sym same.0) ∙ a.after in
     omega (arith, more.4, ap length none)
 
-pub whole_not_refused : (text : List ℕ) (g : GameData) (number : ℕ) (kind : Kind) → IsTextOf g text [] → RefusesAlone text number kind → ⊥
+pub whole_not_refused : (text : List ℕ) (g : GameData) (number : ℕ) (kind : Kind) → IsTextOf g text [] → HaltsAlone text number kind → ⊥
 whole_not_refused text g number kind t (inl r) = text_not_refused text [] g number kind t r
 whole_not_refused text g number kind t (inr more) = goes_not_on text g t number kind more
 
-pub text_refused_once : (text : List ℕ) (m n : ℕ) (j k : Kind) → RefusesAlone text m j → RefusesAlone text n k → (m ≡ n) × (j ≡ k)
+pub text_refused_once : (text : List ℕ) (m n : ℕ) (j k : Kind) → HaltsAlone text m j → HaltsAlone text n k → (m ≡ n) × (j ≡ k)
 text_refused_once text m n j k (inl a) (inl b) = refused_once (lines_of text) m n j k a b
 text_refused_once text m n j k (inl a) (inr b) = absurd (not_both (lines_of text) b.0 b.1 b.2 m j b.3 a)
 text_refused_once text m n j k (inr a) (inl b) = absurd (not_both (lines_of text) a.0 a.1 a.2 n k a.3 b)
@@ -232,7 +232,7 @@ text_refused_once text m n j k (inr a) (inr b) =
     let same = accepted_once (lines_of text) a.0 b.0 a.1 b.1 a.2 b.2 a.3 b.3 in
     (omega (arith, same.0, a.5, b.5), a.6 ∙ sym b.6)
 
-pub texts_are_read : (text rest : List ℕ) (g : GameData) → IsTextOf g text rest → (count : ℕ) × (entries : List Entry) × Accepts (lines_of text) count entries (lines_of rest) × (after_lines count text ≡ rest)
+pub texts_are_read : (text rest : List ℕ) (g : GameData) → IsTextOf g text rest → (count : ℕ) × (entries : List Entry) × ReadsAll (lines_of text) count entries (lines_of rest) × (after_lines count text ≡ rest)
 texts_are_read text rest g t =
     let a = text_reads g text rest t in
     (a.count, entries_of g (scaled t.times g.first), a.reads, a.after)

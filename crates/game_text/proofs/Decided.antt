@@ -6,15 +6,16 @@ use Rattle.game_text.specs.declared.fault.Kind.{Kind}
 use Rattle.game_text.specs.declared.fault.Kind.TheVariants as kinds
 use Rattle.game_text.specs.Text.{IsTextOf}
 use Rattle.game_text.specs.Entries.{Entry, Version, Size, Total, Discount, First, Step, Out, End, entry_of}
-use Rattle.game_text.specs.Reading.{Reads, Accepts, Refuses, RefusesAlone, IsUnfinished, line_at}
+use Rattle.game_text.specs.Reading.{IsUnfinished}
+use Rattle.game_text.specs.Steps.{Reads, ReadsAll, Halts, HaltsAlone, line_at}
 use Rattle.game_text.proofs.Reading.{reads_none, reads_more}
 use Rattle.game_text.proofs.Accept.{lines_are_texts}
 
 abbrev Accepted : List Line → Type 0
-Accepted lines = (count : ℕ) × (entries : List Entry) × (rest : List Line) × Accepts lines count entries rest
+Accepted lines = (count : ℕ) × (entries : List Entry) × (rest : List Line) × ReadsAll lines count entries rest
 
 abbrev Refused : List Line → Type 0
-Refused lines = (number : ℕ) × (kind : Kind) × Refuses lines number kind
+Refused lines = (number : ℕ) × (kind : Kind) × Halts lines number kind
 
 ended_or_not : (entries : List Entry) → ((b : List Entry) × (entries ≡ End ∷ b)) ⊎ IsUnfinished entries
 ended_or_not [] = inr tt
@@ -61,19 +62,19 @@ decided_from lines (line ∷ rest) count entries reads = elim (ended_or_not entr
   | inr due ↦ goes lines line rest count entries reads due (λ entry more. decided_from lines rest (count + 1) (entry ∷ entries) more) (entry_of entries line) refl
 ]
 
-pub decided : (text : List ℕ) → ((g : GameData) × (rest : List ℕ) × IsTextOf g text rest) ⊎ ((number : ℕ) × (kind : Kind) × Refuses (lines_of text) number kind)
+pub decided : (text : List ℕ) → ((g : GameData) × (rest : List ℕ) × IsTextOf g text rest) ⊎ ((number : ℕ) × (kind : Kind) × Halts (lines_of text) number kind)
 decided text = elim (decided_from (lines_of text) (lines_of text) 0 [] (reads_none (lines_of text))) [
   | inl a ↦ let p = lines_are_texts text a.0 a.1 a.2 a.3 in inl (p.0, after_lines a.0 text, p.1)
   | inr r ↦ inr r
 ]
 
-alone : (text : List ℕ) (a : Accepted (lines_of text)) (left : List ℕ) → left ≡ after_lines a.0 text → ((g : GameData) × IsTextOf g text []) ⊎ ((number : ℕ) × (kind : Kind) × RefusesAlone text number kind)
+alone : (text : List ℕ) (a : Accepted (lines_of text)) (left : List ℕ) → left ≡ after_lines a.0 text → ((g : GameData) × IsTextOf g text []) ⊎ ((number : ℕ) × (kind : Kind) × HaltsAlone text number kind)
 alone text a [] e = let p = lines_are_texts text a.0 a.1 a.2 a.3 in inl (p.0, subst (IsTextOf p.0 text) (sym e) p.1)
 alone text a (byte ∷ left) e =
     let some : 0 < length (after_lines a.0 text) = omega (arith, ap length e) in
     inr (a.0 + 1, kinds.Trailing, inr (a.0, a.1, a.2, a.3, some, refl, refl))
 
-pub decided_alone : (text : List ℕ) → ((g : GameData) × IsTextOf g text []) ⊎ ((number : ℕ) × (kind : Kind) × RefusesAlone text number kind)
+pub decided_alone : (text : List ℕ) → ((g : GameData) × IsTextOf g text []) ⊎ ((number : ℕ) × (kind : Kind) × HaltsAlone text number kind)
 decided_alone text = elim (decided_from (lines_of text) (lines_of text) 0 [] (reads_none (lines_of text))) [
   | inl a ↦ alone text a (after_lines a.0 text) refl
   | inr r ↦ inr (r.0, r.1, inl r.2)

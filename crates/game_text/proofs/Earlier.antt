@@ -16,7 +16,8 @@ use Rattle.game_text.specs.declared.fault.Kind.{Kind}
 use Rattle.game_text.specs.declared.fault.Kind.TheVariants as kinds
 use Rattle.game_text.specs.Forms.{within, numbers_after, version_line, most_total, most_weight, discount_within, total_within, state_at, own_at, informed_at, next_triple, full_row, narrow_reward, later_pair, fits_row}
 use Rattle.game_text.specs.Entries.{Entry, Version, Size, Total, Discount, First, Step, Out, End, shape_in, begun_in, sum_in, entry_of, version_said, size_said, total_said, discount_said, first_said, step_said, out_said, end_said, row_end_said}
-use Rattle.game_text.specs.Reading.{line_at, IsUnfinished, Refuses}
+use Rattle.game_text.specs.Reading.{IsUnfinished}
+use Rattle.game_text.specs.Steps.{line_at, Halts}
 
 abbrev failed : {A : Type 0} → Kind → Result A Kind
 failed kind = Err kind
@@ -224,5 +225,5 @@ unfolding line_at
 never_line before [] on = never_fails kinds.Missing missing_other
 never_line before (line ∷ lines) on = never_bind (entry_of before line) _ (never_entry before line on) λ e. never_done (e, lines)
 
-pub refused_before : (lines : List Line) (number : ℕ) (kind : Kind) → Refuses lines number kind → kind ≡ kinds.Trailing → ⊥
+pub refused_before : (lines : List Line) (number : ℕ) (kind : Kind) → Halts lines number kind → kind ≡ kinds.Trailing → ⊥
 refused_before lines number kind r e = never_line r.1 r.2 r.5 (r.6 ∙ ap failed e)

@@ -8,7 +8,7 @@ use Rattle.game_model.specs.declared.parts.Landing.{Landing}
 use Rattle.game_model.specs.Game.{GameData, IsGame, IsBelief}
 use Rattle.game_text.specs.Text.{IsTextOf}
 use Rattle.game_text.specs.Entries.{Entry, End, shape_in}
-use Rattle.game_text.specs.Reading.{Reads}
+use Rattle.game_text.specs.Steps.{Reads}
 use Rattle.game_text.specs.Built.{rewards_in, rows_in, IsBuilt, IsEnded, EndsAfter}
 use Rattle.game_text.proofs.Runs.{shape_spelled}
 use Rattle.game_text.proofs.Spells.{finished, game_from}

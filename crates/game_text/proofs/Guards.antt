@@ -66,7 +66,7 @@ next_triple-to shape k = rw (eqb_same (state_at shape k)) (rw (eqb_same (own_at 
     eqb_same : (n : ℕ) → eqb n n ≡ true
     eqb_same n = grind (arith, nat_tests)
 
-squeezed : (x y : ℤ) → IsWithin y y x → x ≡ y
+pub squeezed : (x y : ℤ) → IsWithin y y x → x ≡ y
 squeezed x y h = omega (arith, ints, h.0, h.1)
 
 pub full_row-ok : (shape : Shape) (begun : ℕ) (sum : ℤ) (u : Unit {0}) → full_row shape begun sum ≡ Ok u → (begun ≡ 0) ⊎ (sum ≡ shape.row_total)
@@ -104,10 +104,10 @@ abbrev pub IsAfter : Option (ℕ × ℕ) → ℕ → ℕ → Type 0
 IsAfter None seen to = Unit {0}
 IsAfter (Some pair) seen to = (pair.0 < seen) ⊎ ((pair.0 ≡ seen) × (pair.1 < to))
 
-lt_true : (a b : ℕ) → a < b → ltb a b ≡ true
+pub lt_true : (a b : ℕ) → a < b → ltb a b ≡ true
 lt_true a b h = grind (arith, nat_tests)
 
-eq_true : (a b : ℕ) → a ≡ b → eqb a b ≡ true
+pub eq_true : (a b : ℕ) → a ≡ b → eqb a b ≡ true
 eq_true a b h = grind (arith, nat_tests)
 
 pub later_pair-ok : (pair : Option (ℕ × ℕ)) (seen to : ℕ) (u : Unit {0}) → later_pair pair seen to ≡ Ok u → IsAfter pair seen to

@@ -15,3 +15,8 @@ pub mod Earlier
 pub mod Refusals
 pub mod Taking
 pub mod Decided
+pub mod OneForm
+pub mod RuleTests
+pub mod Verdicts
+pub mod Judged
+pub mod Ruled

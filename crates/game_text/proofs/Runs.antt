@@ -15,7 +15,7 @@ use Rattle.game_model.specs.Game.{IsWithin, IsBelief, IsNarrow, IsShape, IsBefor
 use Rattle.game_text.specs.Forms.{most_total, state_at, own_at, informed_at}
 use Rattle.game_text.specs.Entries.{Entry, Version, Size, Total, Discount, First, Step, Out, End, shape_in, begun_in, sum_in, pair_in, entry_of, row_end_said, out_said, step_said, end_said}
 use Rattle.game_text.specs.Place.{IsOpen}
-use Rattle.game_text.specs.Reading.{Say}
+use Rattle.game_text.specs.Steps.{Say}
 use Rattle.game_text.proofs.Guards.{IsAfter}
 use Rattle.game_text.proofs.Said.{words_in, SizeFits, DiscountFits, StepFits, OutFits, version-ok, version-to, size-ok, size-to, total-ok, total-to, discount-ok, discount-to, first-ok, first-to, step-ok, step-to, out-ok, out-to, end-ok, end-to}
 

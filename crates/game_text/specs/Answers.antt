@@ -1,6 +1,6 @@
 -- What a refusal of a text says.
 use Rattle.std.specs.Prelude.{◌≢◌, ℕ, List, [], ⊤}
-use Rattle.text_words.specs.Lines.{Line as Words, lines_of}
+use Rattle.text_words.specs.Lines.{lines_of}
 use Rattle.game_model.specs.Game.{GameData}
 use Rattle.game_text.specs.declared.fault.Kind.TheVariants as kinds
 use Rattle.game_text.specs.declared.fault.TextFault.{TextFault}
@@ -9,12 +9,9 @@ use Rattle.game_text.specs.Text.{IsTextOf}
 use Rattle.game_text.specs.Reading.{Refuses, RefusesAlone}
 
 -- the first line that is refused, with its least kind
-abbrev pub IsFaultOf : List Words → TextFault → Type 0
-IsFaultOf lines (Line number kind) = Refuses lines number kind
-IsFaultOf lines OutOfMemory = ⊤
-
 abbrev pub IsRefused : List ℕ → TextFault → Type 0
-IsRefused text fault = IsFaultOf (lines_of text) fault
+IsRefused text (Line number kind) = Refuses (lines_of text) number kind
+IsRefused text OutOfMemory = ⊤
 
 -- the same of the whole bytes
 abbrev pub IsRefusedAlone : List ℕ → TextFault → Type 0

@@ -7,7 +7,7 @@ use Rattle.game_model.specs.Build.{HasRoom, HasWeightLeft, IsBegun, IsLastRowFul
 use Rattle.game_text.specs.declared.place.RowEntry.{RowEntry}
 use Rattle.game_text.specs.declared.place.RowEntry.TheVariants as row
 use Rattle.game_text.specs.Entries.{Entry, Step, Out, End, shape_in}
-use Rattle.game_text.specs.Reading.{Say, Accepts}
+use Rattle.game_text.specs.Steps.{Say, ReadsAll}
 
 -- the rewards and the rows that entries say; entries, rewards, rows and landings have the latest first
 abbrev pub rewards_in : List Entry → List ℤ
@@ -54,4 +54,4 @@ Takes g row.End = Unit {0}
 
 -- so many lines of the text are accepted, and these bytes are left
 abbrev pub EndsAfter : List ℕ → ℕ → List ℕ → Type 0
-EndsAfter text count rest = (entries : List Entry) × Accepts (lines_of text) count entries (lines_of rest) × (after_lines count text ≡ rest)
+EndsAfter text count rest = (entries : List Entry) × ReadsAll (lines_of text) count entries (lines_of rest) × (after_lines count text ≡ rest)

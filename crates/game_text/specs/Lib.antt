@@ -2,7 +2,10 @@ pub mod Fault
 pub mod Text
 pub mod Forms
 pub mod Entries
+pub mod Due
+pub mod Rules
 pub mod Reading
+pub mod Steps
 pub mod Laws
 pub mod Place
 pub mod Header

@@ -9,7 +9,7 @@ use Rattle.game_text.specs.declared.place.Latest.{Latest}
 use Rattle.game_text.specs.declared.place.Latest.TheVariants.{Start, Row, Pair}
 use Rattle.game_text.specs.declared.place.RowEntry.{RowEntry}
 use Rattle.game_text.specs.declared.place.RowEntry.TheVariants as row
-use Rattle.game_text.specs.Reading.{first_of}
+use Rattle.game_text.specs.Steps.{first_of}
 use Rattle.game_text.specs.Entries.{Entry, First, Step, Out, End, shape_in, begun_in, sum_in, step_said, out_said, row_end_said}
 
 -- the entry of a line of the rows

@@ -1,48 +1,42 @@
 -- A text as the list of what its lines say: which texts are accepted, and where the others are refused.
-use Rattle.std.specs.Prelude.{◌≡◌, ◌⊎◌, ℕ, ◌+◌, ◌<◌, List, [], ◌∷◌, ◌++◌, reverse, length, Result, Ok, Err, ⊤}
+use Rattle.std.specs.Prelude.{◌≡◌, ◌⊎◌, ℕ, ◌+◌, ◌<◌, List, [], ◌∷◌, ◌++◌, reverse, length, ⊤}
 use Rattle.text_words.specs.Lines.{Line, lines_of, after_lines}
-use Rattle.text_words.specs.Forms.{◌>>=◌}
 use Rattle.game_text.specs.declared.fault.Kind.{Kind}
 use Rattle.game_text.specs.declared.fault.Kind.TheVariants as kinds
-use Rattle.game_text.specs.Entries.{Entry, End, entry_of}
+use Rattle.game_text.specs.Entries.{Entry, End}
+use Rattle.game_text.specs.Rules.{IsLeast, IsPassed}
 
--- these lines say these entries; both have the latest first
-abbrev pub Say : List Line → List Entry → Type 0
-Say [] [] = ⊤
-Say [] (entry ∷ entries) = ⊥
-Say (line ∷ lines) [] = ⊥
-Say (line ∷ lines) (entry ∷ entries) = (entry_of entries line ≡ Ok entry) × Say lines entries
+-- these lines say these entries, and no kind applies to one of the lines; both have the latest first
+abbrev pub ArePassed : List Line → List Entry → Type 0
+ArePassed [] [] = ⊤
+ArePassed [] (entry ∷ entries) = ⊥
+ArePassed (line ∷ lines) [] = ⊥
+ArePassed (line ∷ lines) (entry ∷ entries) = IsPassed entries line entry × ArePassed lines entries
 
--- the words of the first line, and the lines after it
-abbrev pub first_of : List Line → Result (Line × List Line) Kind
-first_of [] = Err kinds.Missing
-first_of (line ∷ lines) = Ok (line, lines)
-
--- what the next line says, and the lines after it
-unfoldable pub line_at : List Entry → List Line → Result (Entry × List Line) Kind
-line_at before lines = do
-  next ← first_of lines
-  entry ← entry_of before next.0
-  Ok (entry, next.1)
-
--- Of these lines, so many say these entries, the latest first, and the rest are left.
-abbrev pub Reads : List Line → ℕ → List Entry → List Line → Type 0
-Reads lines count entries rest =
-    (before : List Line) × (lines ≡ reverse before ++ rest) × (length before ≡ count) × Say before entries
+-- Of these lines, so many are passed and say these entries, the latest first, and the rest are left.
+abbrev pub Passes : List Line → ℕ → List Entry → List Line → Type 0
+Passes lines count entries rest =
+    (before : List Line) × (lines ≡ reverse before ++ rest) × (length before ≡ count) × ArePassed before entries
 
 -- a further line is due
 abbrev pub IsUnfinished : List Entry → Type 0
 IsUnfinished (End ∷ before) = ⊥
 IsUnfinished _ = ⊤
 
+-- the line that is due is not there, or this is the least kind that applies to it
+abbrev pub IsLineRefused : List Entry → List Line → Kind → Type 0
+IsLineRefused before [] kind = kind ≡ kinds.Missing
+IsLineRefused before (line ∷ rest) kind = IsLeast before line kind
+
 -- the line of this number is the first refused one, and this is its least kind
 abbrev pub Refuses : List Line → ℕ → Kind → Type 0
 Refuses lines number kind =
-    (count : ℕ) × (entries : List Entry) × (rest : List Line) × (number ≡ count + 1) × Reads lines count entries rest × IsUnfinished entries × (line_at entries rest ≡ Err kind)
+    (count : ℕ) × (entries : List Entry) × (rest : List Line) × (number ≡ count + 1) × Passes lines count entries rest
+    × IsUnfinished entries × IsLineRefused entries rest kind
 
 -- the lines are a text, to its `end` line
 abbrev pub Accepts : List Line → ℕ → List Entry → List Line → Type 0
-Accepts lines count entries rest = Reads lines count (End ∷ entries) rest
+Accepts lines count entries rest = Passes lines count (End ∷ entries) rest
 
 -- bytes follow the `end` line
 abbrev pub GoesOn : List ℕ → ℕ → Kind → Type 0

@@ -1,11 +1,12 @@
+//! Reads the rows and the `end` line.
 ghost use Rattle.std.specs.Prelude.{◌≡◌, ◌+◌, ◌^◌, ◌<◌, ◌≤◌, ℕ, List, length, IfOk, IfErr, ◌==◌};
 ghost use Rattle.std.specs.List.{after_first};
 ghost use Rattle.text_words.specs.Lines.{Line, after_lines, lines_of};
 ghost use Rattle.game_text.specs.Built.{IsEnded};
 ghost use Rattle.game_text.specs.Fault.{Gives};
 ghost use Rattle.game_text.specs.Place.{IsPlace, IsOpen, FitsPlace, entry_in, place_of, place_after, row_at, said};
-ghost use Rattle.game_text.specs.Reading.{Reads};
-ghost use Rattle.game_text.specs.Answers.{IsFaultOf};
+ghost use Rattle.game_text.specs.Steps.{Reads};
+ghost use Rattle.game_text.specs.Steps.{IsFaultOf};
 ghost use Rattle.game_text.specs.Entries.{Entry};
 
 use crate::fault::{LineFault, TextFault, numbered};

@@ -1,3 +1,4 @@
+//! Builds the game that the lines say.
 ghost use Rattle.std.specs.Prelude.{◌≡◌, IfErr, IfOk, OnOk};
 ghost use Rattle.game_text.specs.declared.fault.TextFault.TheVariants as texts;
 ghost use Rattle.game_text.specs.Built.{IsBuilt, IsEnded, IsSaid, Takes, with_entry};

@@ -1,3 +1,4 @@
+//! What is wrong with a line or a text of a game.
 ghost use Rattle.std.specs.Prelude.{◌≡◌, Ok, Err, MatchResult};
 ghost use Rattle.game_text.specs.declared.fault.LineFault.TheVariants.{OutOfMemory, Refused};
 ghost use Rattle.game_text.specs.declared.fault.TextFault.TheVariants as texts;

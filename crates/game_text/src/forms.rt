@@ -1,3 +1,4 @@
+//! The words and numbers of one line, and their limits.
 ghost use Rattle.std.specs.Prelude.{◌≡◌, ◌≤◌, length, map, IfOk, All, pos, ◌≤ℤ◌};
 ghost use Rattle.scaled_num.specs.Sums.{sum_of};
 ghost use Rattle.game_text.specs.Limits.{IsDiscount};

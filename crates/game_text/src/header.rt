@@ -1,12 +1,13 @@
+//! Reads the five lines before the rows.
 ghost use Rattle.std.specs.Prelude.{◌≡◌, ◌≤◌, ◌<◌, ℕ, ℤ, List, [], ◌∷◌, length, map, IfOk, IfErr, pos, ◌==◌, ◌≤ℤ◌};
 ghost use Rattle.std.specs.List.{after_first};
 ghost use Rattle.text_words.specs.Lines.{after_lines, lines_of};
 ghost use Rattle.game_model.specs.Game.{IsShape, IsWithin};
 ghost use Rattle.game_text.specs.Fault.{Gives};
-ghost use Rattle.game_text.specs.Reading.{Reads, first_of, line_at};
+ghost use Rattle.game_text.specs.Steps.{Reads, first_of, line_at};
 ghost use Rattle.game_text.specs.Entries.{Entry, Version, Size, Total, Discount, First, shape_in, size_said, total_said, discount_said, first_said};
 ghost use Rattle.game_text.specs.Header.{AreSizes, said_by};
-ghost use Rattle.game_text.specs.Answers.{IsFaultOf};
+ghost use Rattle.game_text.specs.Steps.{IsFaultOf};
 ghost use Rattle.game_text.specs.Limits.{IsDiscount};
 
 use crate::fault::{Kind, LineFault, TextFault, numbered};
@@ -43,7 +44,7 @@ pub fn first_words(alloc: Global, text: &[u8]) -> Result<(Vec<&[u8]>, &[u8]), Li
     Ok((text_words::words(alloc, line)?, rest))
 }
 
-#[tactic(auto, unfolding(crate::specs::Entries::version_said, crate::specs::Entries::entry_of, crate::specs::Reading::line_at))]
+#[tactic(auto, unfolding(crate::specs::Entries::version_said, crate::specs::Entries::entry_of, crate::specs::Steps::line_at))]
 fn version_line(alloc: Global, text: &[u8]) -> Result<&[u8], LineFault>
     ensures gives { Gives (λ rest. (Version, lines_of rest.now)) result (line_at [] (lines_of text.now)) }
     ensures after { IfOk result (λ rest. rest.now ≡ after_first (λ b. b == 10) text.now) }
@@ -97,7 +98,7 @@ fn first_said(alloc: Global, words: &[&[u8]], states: u32) -> Result<Vec<i128>, 
     Ok(weights)
 }
 
-#[tactic(auto, unfolding(crate::specs::Entries::entry_of, crate::specs::Reading::line_at))]
+#[tactic(auto, unfolding(crate::specs::Entries::entry_of, crate::specs::Steps::line_at))]
 fn size_line(alloc: Global, text: &[u8]) -> Result<(Sizes, &[u8]), LineFault>
     ensures gives { Gives (λ found. (Size found.0.states found.0.own_actions found.0.informed_actions found.0.observations, lines_of found.1.now)) result (line_at (Version ∷ []) (lines_of text.now)) }
     ensures limits { IfOk result (λ found. AreSizes found.0) }
@@ -108,7 +109,7 @@ fn size_line(alloc: Global, text: &[u8]) -> Result<(Sizes, &[u8]), LineFault>
     Ok((sizes, rest))
 }
 
-#[tactic(auto, unfolding(crate::specs::Entries::entry_of, crate::specs::Reading::line_at))]
+#[tactic(auto, unfolding(crate::specs::Entries::entry_of, crate::specs::Steps::line_at))]
 fn total_line(alloc: Global, text: &[u8]) -> Result<(i128, &[u8]), LineFault>
     ensures gives { (s a c o : ℕ) (before : List Entry) → Gives (λ found. (Total found.0, lines_of found.1.now)) result (line_at (Size s a c o ∷ before) (lines_of text.now)) }
     ensures limits { IfOk result (λ found. IsWithin (pos 1) (pos 1073741824) found.0) }
@@ -119,7 +120,7 @@ fn total_line(alloc: Global, text: &[u8]) -> Result<(i128, &[u8]), LineFault>
     Ok((total, rest))
 }
 
-#[tactic(auto, unfolding(crate::specs::Entries::entry_of, crate::specs::Reading::line_at))]
+#[tactic(auto, unfolding(crate::specs::Entries::entry_of, crate::specs::Steps::line_at))]
 fn discount_line(alloc: Global, text: &[u8]) -> Result<((i128, i128), &[u8]), LineFault>
     ensures gives { (total : ℤ) (before : List Entry) → Gives (λ found. (Discount found.0.0 found.0.1, lines_of found.1.now)) result (line_at (Total total ∷ before) (lines_of text.now)) }
     ensures limits { IfOk result (λ found. IsDiscount found.0) }
@@ -130,7 +131,7 @@ fn discount_line(alloc: Global, text: &[u8]) -> Result<((i128, i128), &[u8]), Li
     Ok((discount, rest))
 }
 
-#[tactic(auto, unfolding(crate::specs::Entries::entry_of, crate::specs::Reading::line_at))]
+#[tactic(auto, unfolding(crate::specs::Entries::entry_of, crate::specs::Steps::line_at))]
 fn first_line(alloc: Global, states: u32, text: &[u8]) -> Result<(Vec<i128>, &[u8]), LineFault>
     requires { states ≤ 16 }
     ensures gives { (over under : ℤ) (before : List Entry) → (shape_in before).states ≡ states → Gives (λ found. (First found.0.items, lines_of found.1.now)) result (line_at (Discount over under ∷ before) (lines_of text.now)) }

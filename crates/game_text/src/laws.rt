@@ -1,3 +1,4 @@
+//! Laws that make acceptance and refusal exact.
 ghost use Rattle.game_text.specs.Laws.{AnyRest, Decided, DecidedAlone, LinesAreTexts, RefusedOnce, TextsAreGames, TextsAreNotRefused, TextsAreRead, WholeTextsAreNotRefused};
 
 /// A law: a text is of one game, and ends at one place.

@@ -1,3 +1,4 @@
+//! Where the reading of rows stands, and what a line of the rows says.
 use game_model::{Landing, Shape};
 
 /// The line just before, as far as the rows go.

@@ -1,3 +1,4 @@
+//! The lines of the rows.
 ghost use Rattle.std.specs.Prelude.{◌≡◌, ◌≤◌, ◌<◌, ◌^◌, length, map, IfOk, OnOk, pos, ◌≤ℤ◌, ◌+ℤ◌, ◌*ℤ◌, neg_ℤ, max, unsigned_abs};
 ghost use Rattle.game_model.specs.Game.{IsShape, triples};
 ghost use Rattle.game_text.specs.Fault.{Gives};

@@ -1,7 +1,9 @@
+//! Reads the text of a game, alone or at the front of a longer input.
 ghost use Rattle.std.specs.Prelude.{◌≡◌, ◌+◌, ◌^◌, ◌<◌, ◌≤◌, [], length, drop, IfOk, IfErr};
 ghost use Rattle.game_text.specs.Text.{IsTextOf};
 ghost use Rattle.game_text.specs.Built.{EndsAfter};
 ghost use Rattle.game_text.specs.Answers.{IsRefused, IsRefusedAlone, IsNoFront, IsNoText, IsNotTrailing};
+ghost use Rattle.game_text.specs.Steps.{IsStopped};
 
 use crate::body::read_rows;
 use crate::build::build;
@@ -18,7 +20,7 @@ fn read_front(alloc: Global, bytes: &[u8]) -> Result<(Game, u32, usize), TextFau
     ensures few { IfOk result (λ found. found.1 < 2 ^ 31) }
     ensures ends { IfOk result (λ found. EndsAfter bytes.now found.1 (drop found.2 bytes.now)) }
     ensures game { IfOk result (λ found. IsTextOf found.0 bytes.now (drop found.2 bytes.now)) }
-    ensures refused { IfErr result (IsRefused bytes.now) }
+    ensures refused { IfErr result (IsStopped bytes.now) }
 {
     let (header, body) = read_header(alloc, bytes)?;
     let start = Place {

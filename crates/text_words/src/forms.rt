@@ -1,3 +1,4 @@
+//! Lines of a word and numbers, and the limits of numbers.
 ghost use Rattle.std.specs.Prelude.{◌≡◌, ◌≤◌, ◌<◌, length, map, IfOk, OnOk, All, pos, ◌≤ℤ◌};
 ghost use Rattle.text_words.specs.declared.forms.NumbersFault.TheVariants.{Shape, Number, OutOfMemory};
 ghost use Rattle.text_words.specs.Forms.{begins, numbers_said, numbers_after, is_within, limited, below_limit, each_within};

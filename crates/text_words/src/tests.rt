@@ -1,3 +1,4 @@
+//! Tests of words, numbers and limits.
 use crate::{
     NumbersFault, below_limit, each_within, limited, number, numbers_after, split_line, words,
 };

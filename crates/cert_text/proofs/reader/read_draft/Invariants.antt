@@ -1,7 +1,7 @@
 use Rattle.std.proofs.Common.{◌+◌, ◌≤◌, length}
 use Rattle.cert_text.specs.Draft.{draft_data}
 use Rattle.cert_text.specs.View.{IsPlace}
-use Rattle.cert_text.specs.Reading.{IsUnfinished}
+use Rattle.cert_text.specs.Steps.{IsUnfinished}
 use Rattle.cert_text.proofs.SoFar.{SoFar}
 use Rattle.cert_text.proofs.reader.read_draft.Given as goal
 

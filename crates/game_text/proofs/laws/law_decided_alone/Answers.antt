@@ -1,5 +1,5 @@
-use Rattle.game_text.proofs.Decided.{decided_alone}
+use Rattle.game_text.proofs.Ruled.{answered_alone}
 use Rattle.game_text.proofs.laws.law_decided_alone.Goals as goal
 
 pub returns : goal.returns
-returns c = decided_alone
+returns c = answered_alone

@@ -9,7 +9,7 @@ use Rattle.game_text.specs.Entries.{Entry}
 use Rattle.game_text.specs.Built.{IsBuilt, IsEnded, EndsAfter}
 use Rattle.game_text.proofs.Accept.{weights_in}
 use Rattle.game_text.specs.Place.{said, entry_in}
-use Rattle.game_text.specs.Reading.{Say}
+use Rattle.game_text.specs.Steps.{Say}
 use Rattle.game_text.proofs.Final.{found}
 use Rattle.game_text.proofs.texts.read_front.Goals as goal
 
