@@ -1,17 +1,26 @@
 -- An input has one answer, whatever the command.
-use Rattle.std.proofs.Common.{ℕ, ◌<◌, ◌≤◌, length, Some, None, sym, ◌∙◌, arith, inl, inr}
+use Rattle.std.proofs.Common.{◌⊎◌, ℕ, ◌<◌, ◌≤◌, [], length, Some, None, refl, sym, ◌∙◌, arith, inl, inr}
+use Rattle.osposg_cli.specs.declared.words.Command.{Command}
 use Rattle.osposg_cli.specs.declared.words.Command.TheVariants.{Check, Floor}
-use Rattle.osposg_cli.specs.Answer.{AnswersAreOne, WorkIsDefined}
+use Rattle.osposg_cli.specs.Answer.{Answers, AnswersAreOne, InputsAreAnswered, IsWork, WorkIsDefined}
 use Rattle.osposg_cli.specs.Check.{AnswersCheck}
-use Rattle.osposg_cli.specs.Defined.{IsDefined}
+use Rattle.osposg_cli.specs.Defined.{AreAnswered, IsAnswered, IsDefined}
 use Rattle.osposg_cli.specs.Floor.{AnswersFloor}
 use Rattle.osposg_cli.specs.Inputs.{most_input}
+use Rattle.osposg_cli.specs.Refusals.{words_refused}
+use Rattle.osposg_cli.specs.declared.status.Status.TheVariants.{TooLong, WordsRefused}
+use Rattle.std.proofs.lemmas.Bool.{cases_order}
 
 -- by command
 pub work-defined : IsDefined AnswersFloor → IsDefined AnswersCheck → WorkIsDefined
 work-defined floor check Floor = floor
 work-defined floor check Check = check
 
+pub work-some : AreAnswered AnswersFloor → AreAnswered AnswersCheck → (command : Command) → AreAnswered (IsWork command)
+work-some floor check Floor = floor
+work-some floor check Check = check
+
+-- whatever the command
 pub too-long : (n : ℕ) → most_input < n → n ≤ most_input → ⊥
 too-long n l k = omega arith
 
@@ -21,3 +30,14 @@ answers-once work (Some command) input status other text more (inl (l, s, t)) (i
 answers-once work (Some command) input status other text more (inl (l, s, t)) (inr (k, h)) = absurd (too-long (length input) l k)
 answers-once work (Some command) input status other text more (inr (l, h)) (inl (k, r, m)) = absurd (too-long (length input) k l)
 answers-once work (Some command) input status other text more (inr (l, h)) (inr (k, w)) = (work command).one input status other text more h w
+
+few-or-many : (n : ℕ) → (n ≤ most_input) ⊎ (most_input < n)
+few-or-many n = elim (cases_order n most_input) [ inl e ↦ inl (omega (arith, e)) | inr l ↦ elim l [ inl a ↦ inl (omega (arith, a)) | inr b ↦ inr b ] ]
+
+pub answers-some : ((command : Command) → AreAnswered (IsWork command)) → InputsAreAnswered
+answers-some work None input = (WordsRefused, words_refused, (refl, refl))
+answers-some work (Some command) input = found (few-or-many (length input))
+  where
+    found : (length input ≤ most_input) ⊎ (most_input < length input) → IsAnswered (Answers (Some command) input)
+    found (inl few) = let answer = work command input in (answer.0, answer.1, inr (few, answer.2))
+    found (inr many) = (TooLong, [], inl (many, refl, refl))

@@ -8,7 +8,7 @@ use Rattle.hsvi_io.specs.Bytes.{GaveAll, GaveTooMany, Wrote}
 use Rattle.osposg_cli.specs.declared.status.Status.{Status}
 use Rattle.osposg_cli.specs.declared.status.Status.TheVariants.{Done, No, GameRefused, CertRefused, WordsRefused, ReadFault, WriteFault, OutOfMemory, TooLong}
 use Rattle.osposg_cli.specs.declared.words.Command.{Command}
-use Rattle.osposg_cli.specs.Answer.{Answers, AnswersAreOne, AnswersInput, Ends, IsDue, IsEarly, IsGiven, IsInput, IsWork, WorkIsDefined, WroteOne}
+use Rattle.osposg_cli.specs.Answer.{Answers, AnswersAreOne, AnswersInput, Ends, InputsAreAnswered, IsDue, IsEarly, IsGiven, IsInput, IsWork, WorkIsDefined, WroteOne}
 use Rattle.osposg_cli.specs.Defined.{HasText}
 use Rattle.osposg_cli.specs.Inputs.{most_input}
 use Rattle.osposg_cli.specs.Refusals.{words_refused}
@@ -102,6 +102,15 @@ complete_early command left new room old bytes No other more e early fault h = a
 complete_early command left new room old bytes GameRefused other more e early fault h = absurd early
 complete_early command left new room old bytes WordsRefused other more e early fault h = absurd early
 complete_early command left new room old bytes WriteFault other more e early fault h = absurd early
+
+-- every input has an answer, and what is true of it
+pub complete_some : InputsAreAnswered → (command : Option Command) (left : Option (List ℕ)) (calm still : Type 0) (Given : Status → List ℕ → Type 0) →
+    ((bytes : List ℕ) (status : Status) (text : List ℕ) → left ≡ Some bytes → Answers command bytes status text → calm → still → Given status text) →
+    IfSome left (λ bytes. (status : Status) × (text : List ℕ) × Answers command bytes status text × (calm → still → Given status text))
+complete_some some command None calm still Given h = tt
+complete_some some command (Some left) calm still Given h =
+    let answer = some command left in
+    (answer.0, answer.1, answer.2, h left answer.0 answer.1 refl answer.2)
 
 -- ---- what Done promises
 abbrev is_done : Status → Type 0

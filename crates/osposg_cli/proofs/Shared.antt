@@ -1,15 +1,20 @@
 -- Answers to an input that is a game, or a game and a certificate: there is one, and it has a text.
-use Rattle.std.proofs.Common.{◌≡◌, ℕ, List, [], sym, ap, ◌∙◌, subst, inl, inr}
+use Rattle.std.proofs.Common.{◌≡◌, ◌⊎◌, ℕ, List, [], refl, sym, ap, ◌∙◌, subst, inl, inr}
 use Rattle.cert_text.specs.declared.fault.CertKind.{CertKind}
 use Rattle.cert_text.specs.Answers.{IsTextFor}
 use Rattle.cert_text.specs.Laws.{RefusedOnce as CertRefusedOnce}
 use Rattle.controller.specs.Certificates.{CertificateData}
+use Rattle.cert_text.specs.Laws.{Decided as CertDecided}
 use Rattle.game_model.specs.Game.{GameData, IsGame}
 use Rattle.game_text.specs.declared.fault.Kind.{Kind}
-use Rattle.game_text.specs.Laws.{RefusedOnce}
+use Rattle.game_text.specs.Laws.{Decided, DecidedAlone, RefusedOnce}
+use Rattle.game_text.specs.Reading.{Refuses, RefusesAlone}
+use Rattle.text_words.specs.Lines.{lines_of}
+use Rattle.cert_text.specs.Reading.{RefusesCert}
 use Rattle.game_text.specs.Text.{IsTextOf}
 use Rattle.osposg_cli.specs.declared.status.Status.{Status}
-use Rattle.osposg_cli.specs.Defined.{HasText, IsOne, IsTold}
+use Rattle.osposg_cli.specs.declared.status.Status.TheVariants.{CertRefused, GameRefused}
+use Rattle.osposg_cli.specs.Defined.{HasText, IsAnswered, IsOne, IsTold}
 use Rattle.osposg_cli.specs.Inputs.{AnswersBoth, AnswersGame, IsTextOfBoth, RefusesBoth, RefusesFront, RefusesGame, RefusesRest, TextsAreExact}
 use Rattle.osposg_cli.specs.Refusals.{cert_refused, game_refused}
 
@@ -89,3 +94,24 @@ pub both-told : (A : GameData → CertificateData → Status → List ℕ → Ty
 both-told A told input status text (inl (inl (line, kind, is, s, t))) = subst HasText (sym s) tt
 both-told A told input status text (inl (inr (g, rest, is, (line, kind, at, s, t)))) = subst HasText (sym s) tt
 both-told A told input status text (inr (g, k, is, h)) = told g k status text h
+
+-- ---- there is an answer
+pub game-some : DecidedAlone → (A : GameData → Status → List ℕ → Type 0) → ((g : GameData) → IsGame g → IsAnswered (A g)) → (input : List ℕ) → IsAnswered (AnswersGame A input)
+game-some decided A some input = found (decided input)
+  where
+    found : ((g : GameData) × IsTextOf g input []) ⊎ ((number : ℕ) × (kind : Kind) × RefusesAlone input number kind) → IsAnswered (AnswersGame A input)
+    found (inl (g, is)) = let answer = some g is.game in (answer.0, answer.1, inr (g, is, answer.2))
+    found (inr (number, kind, refused)) = (GameRefused, game_refused number kind, inl (number, kind, refused, refl, refl))
+
+pub both-some : Decided → CertDecided → (A : GameData → CertificateData → Status → List ℕ → Type 0) →
+    ((g : GameData) (k : CertificateData) (rest : List ℕ) → IsGame g → IsTextFor g k rest → IsAnswered (A g k)) → (input : List ℕ) → IsAnswered (AnswersBoth A input)
+both-some games certificates A some input = front (games input)
+  where
+    behind : (g : GameData) (rest : List ℕ) → IsTextOf g input rest →
+        ((k : CertificateData) × IsTextFor g k rest) ⊎ ((number : ℕ) × (kind : CertKind) × RefusesCert g rest number kind) → IsAnswered (AnswersBoth A input)
+    behind g rest is (inl (k, for)) = let answer = some g k rest is.game for in (answer.0, answer.1, inr (g, k, (rest, is, for), answer.2))
+    behind g rest is (inr (number, kind, refused)) = (CertRefused, cert_refused number kind, inl (inr (g, rest, is, (number, kind, refused, refl, refl))))
+
+    front : ((g : GameData) × (rest : List ℕ) × IsTextOf g input rest) ⊎ ((number : ℕ) × (kind : Kind) × Refuses (lines_of input) number kind) → IsAnswered (AnswersBoth A input)
+    front (inl (g, rest, is)) = behind g rest is (certificates g rest is.game)
+    front (inr (number, kind, refused)) = (GameRefused, game_refused number kind, inl (inl (number, kind, refused, refl, refl)))

@@ -1,21 +1,25 @@
 -- The answer of `check` to an input: there is one, it has a text, and a yes proves its bounds.
-use Rattle.std.proofs.Common.{◌≡◌, ℕ, List, refl, sym, ap, ◌∙◌, subst, arith, inl, inr}
+use Rattle.std.proofs.Common.{◌≡◌, ◌⊎◌, ℕ, List, refl, sym, ap, ◌∙◌, subst, arith, inl, inr}
 use Rattle.std.specs.Prelude.{ℤ, pos, ◌≤ℤ◌, ◌<ℤ◌, ◌↔◌, ⊤}
 use Rattle.std.proofs.lemmas.Int.{ints}
 use Rattle.cert_check.specs.Verdicts.{FailingFalls, FailsOnce}
 use Rattle.controller.proofs.Places.{rules}
-use Rattle.controller.specs.Certificates.{CertificateData, CertificateStands, Closed, Ending, FractionData, Full, IsShort, IsWithinGap, OutcomeHolds, Trials}
+use Rattle.controller.specs.Certificates.{CertificateData, CertificateFits, CertificateStands, Closed, Ending, FailsFirst, FractionData, Full, IsShort, IsWithinGap, OutcomeHolds, Place, Trials}
 use Rattle.game_model.proofs.Games.{keeps-span}
+use Rattle.cert_text.specs.Laws.{Decided as CertDecided}
 use Rattle.game_model.specs.Game.{GameData, IsGame}
 use Rattle.history_model.specs.Halves.{LowerHolds, UpperHolds}
 use Rattle.osposg_cli.specs.declared.status.Status.{Status}
-use Rattle.osposg_cli.specs.declared.status.Status.TheVariants.{Done}
-use Rattle.osposg_cli.specs.Defined.{HasText, IsDefined, IsOne, IsTold}
+use Rattle.osposg_cli.specs.declared.status.Status.TheVariants.{Done, No}
+use Rattle.osposg_cli.specs.Defined.{HasText, IsAnswered, IsDefined, IsOne, IsTold}
 use Rattle.osposg_cli.specs.Check.{AnswersCheck, IsVerdict, IsYesText, KeepsCheck, Proves, placed, yes_lines}
 use Rattle.osposg_cli.specs.Refusals.{no_text}
 use Rattle.osposg_cli.proofs.Places.{down-once, up-once}
 use Rattle.osposg_cli.specs.Inputs.{TextsAreExact}
-use Rattle.osposg_cli.proofs.Shared.{both-told, both_answer-once}
+use Rattle.osposg_cli.proofs.Shared.{both-some, both-told, both_answer-once}
+use Rattle.osposg_cli.proofs.Decisions.{stands-or-fails}
+use Rattle.osposg_cli.proofs.Rounded.{down-some, up-some}
+use Rattle.game_text.specs.Laws.{Decided}
 use Rattle.scaled_num.specs.Printed.{fraction_text}
 
 -- what is known of the places where a certificate fails
@@ -51,6 +55,29 @@ verdict-once laws g k status other text more (inr (place, fails, s, t)) (inr (ne
 verdict-told : (g : GameData) (k : CertificateData) → IsTold (IsVerdict g k)
 verdict-told g k status text (inl (stands, s, t)) = subst HasText (sym s) tt
 verdict-told g k status text (inr (place, fails, s, t)) = subst HasText (sym s) tt
+
+short-positive : (f : FractionData) → IsShort f → pos 0 <ℤ f.den
+short-positive f h = positive f.den h.1
+  where
+    positive : (x : ℤ) → pos 1 ≤ℤ x → pos 0 <ℤ x
+    positive x h = omega (arith, ints)
+
+yes-some : (k : CertificateData) → IsShort k.lower → IsShort k.upper → IsShort k.tail → (text : List ℕ) × IsYesText k text
+yes-some k l u t =
+    let down = down-some k.lower.num k.lower.den (short-positive k.lower l) in
+    let up = up-some k.upper.num k.upper.den (short-positive k.upper u) in
+    let most = up-some k.tail.num k.tail.den (short-positive k.tail t) in
+    (_, record { down = down.0; up = up.0; most = most.0; lower = down.1; upper = up.1; tail = most.1; same = refl })
+
+verdict-some : (g : GameData) (k : CertificateData) → CertificateFits g k → IsAnswered (IsVerdict g k)
+verdict-some g k fits = found (stands-or-fails g k fits)
+  where
+    found : CertificateStands g k ⊎ ((place : Place) × FailsFirst g k place) → IsAnswered (IsVerdict g k)
+    found (inl stands) = let yes = yes-some k fits.short.0 fits.short.1 fits.short.2 in (Done, yes.0, inl (stands, refl, yes.1))
+    found (inr (place, fails)) = (No, no_text place, inr (place, fails, refl, refl))
+
+pub check-some : Decided → CertDecided → (input : List ℕ) → IsAnswered (AnswersCheck input)
+check-some games certificates = both-some games certificates IsVerdict (λ g k rest game for. verdict-some g k for.0)
 
 pub check-defined : FailingLaws → TextsAreExact → IsDefined AnswersCheck
 check-defined failing laws = record {

@@ -6,7 +6,7 @@ use Rattle.osposg_cli.specs.declared.status.Status.TheVariants.{Done, No, GameRe
 use Rattle.osposg_cli.specs.declared.words.Command.{Command}
 use Rattle.osposg_cli.specs.declared.words.Command.TheVariants.{Check, Floor}
 use Rattle.osposg_cli.specs.Check.{AnswersCheck}
-use Rattle.osposg_cli.specs.Defined.{HasText, IsDefined, IsOne}
+use Rattle.osposg_cli.specs.Defined.{AreAnswered, HasText, IsDefined, IsOne}
 use Rattle.osposg_cli.specs.Floor.{AnswersFloor}
 use Rattle.osposg_cli.specs.Inputs.{most_input}
 use Rattle.osposg_cli.specs.Refusals.{words_refused}
@@ -51,6 +51,10 @@ WritesNothing status = (status ≡ ReadFault) ⊎ (status ≡ TooLong) ⊎ (stat
 -- an input has one answer
 abbrev pub AnswersAreOne : Type 0
 AnswersAreOne = (command : Option Command) (input : List ℕ) → IsOne (Answers command input)
+
+-- there is an answer to each input
+abbrev pub InputsAreAnswered : Type 0
+InputsAreAnswered = (command : Option Command) → AreAnswered (Answers command)
 
 -- how a run ends before there is a text
 abbrev pub IsEarly : Option Command → Option (List ℕ) → Option (List ℕ) → Status → Type 0

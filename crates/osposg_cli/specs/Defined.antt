@@ -20,7 +20,15 @@ IsOne IsAnswer = (status other : Status) (text more : List ℕ) → IsAnswer sta
 abbrev pub IsTold : (Status → List ℕ → Type 0) → Type 0
 IsTold IsAnswer = (status : Status) (text : List ℕ) → IsAnswer status text → HasText status
 
--- to each input there is one answer, and it has a text
+-- there is an answer
+abbrev pub IsAnswered : (Status → List ℕ → Type 0) → Type 0
+IsAnswered IsAnswer = (status : Status) × (text : List ℕ) × IsAnswer status text
+
+-- to each input there is an answer
+abbrev pub AreAnswered : (List ℕ → Status → List ℕ → Type 0) → Type 0
+AreAnswered AnswersInput = (input : List ℕ) → IsAnswered (AnswersInput input)
+
+-- to each input there is one answer at most, and it has a text
 pub record IsDefined (AnswersInput : List ℕ → Status → List ℕ → Type 0) : Type 0 where
   pub one : (input : List ℕ) → IsOne (AnswersInput input)
   pub told : (input : List ℕ) → IsTold (AnswersInput input)

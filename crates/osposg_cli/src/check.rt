@@ -1,7 +1,7 @@
 //! The command `check`: the verdict on a certificate for a game.
 ghost use Rattle.controller.specs.Certificates.{CertificateFits, CertificateStands};
 ghost use Rattle.osposg_cli.specs.Check.{AnswersCheck, IsVerdict, IsYesText, KeepsCheck, placed, yes_lines};
-ghost use Rattle.osposg_cli.specs.Defined.{IsDefined};
+ghost use Rattle.osposg_cli.specs.Defined.{AreAnswered, IsDefined};
 ghost use Rattle.osposg_cli.specs.Inputs.{most_input};
 ghost use Rattle.scaled_num.specs.Printed.{fraction_text};
 ghost use Rattle.std.specs.Prelude.{IfOk, length, ◌≡◌, ◌≤◌};
@@ -32,9 +32,12 @@ pub fn work(alloc: Global, bytes: &[u8]) -> Result<Answer, AllocError>
 /// A law: the answer of `check` is defined, and a yes keeps its promise.
 pub fn law_check()
     ensures defined { IsDefined AnswersCheck }
+    ensures some { AreAnswered AnswersCheck }
     ensures keeps { KeepsCheck }
 {
     law_texts();
+    game_text::law_decided();
+    cert_text::law_decided();
     law_once();
     law_controllers();
     law_splittings();

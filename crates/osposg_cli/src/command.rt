@@ -1,7 +1,7 @@
 //! The top call: the words, the input, the work of the command, the text.
 ghost use Rattle.hsvi_io.specs.Bytes.{Wrote};
 ghost use Rattle.hsvi_io.specs.Causes.{Rose};
-ghost use Rattle.osposg_cli.specs.Answer.{Answers, AnswersAreOne, AnswersInput, Ends, IsDue, IsEarly, IsGiven, IsReadToEnd, IsWork, WorkIsDefined, WritesNothing, WroteOne};
+ghost use Rattle.osposg_cli.specs.Answer.{Answers, AnswersAreOne, AnswersInput, Ends, InputsAreAnswered, IsDue, IsEarly, IsGiven, IsReadToEnd, IsWork, WorkIsDefined, WritesNothing, WroteOne};
 ghost use Rattle.osposg_cli.specs.Check.{CheckPromises};
 ghost use Rattle.osposg_cli.specs.Floor.{FloorPromises};
 ghost use Rattle.osposg_cli.specs.Inputs.{most_input};
@@ -40,11 +40,11 @@ pub fn run<I: Source, O: Sink>(
     ensures unwritten { WritesNothing result → (O.written output.new ≡ O.written output.old) × (O.faults output.new ≡ O.faults output.old) }
     // Where the words name no command, the source is untouched.
     ensures unread { named words.now ≡ None → (I.left input.new ≡ I.left input.old) × (I.faults input.new ≡ I.faults input.old) }
-    // Where no count rose, the defined answer is given and written whole; only want of memory may come in its place,
-    // and then nothing is written.
-    ensures complete { (bytes : List ℕ) (status : Status) (text : List ℕ) → I.left input.old ≡ Some bytes → Answers (named words.now) bytes status text
-        → ¬ (Rose (I.faults input.old) (I.faults input.new)) → ¬ (Rose (O.faults output.old) (O.faults output.new))
-        → IsGiven status text (O.room output.old) (O.written output.old) (O.written output.new) result }
+    // Every input has an answer. Where no count rose, it is given and written whole; only want of memory may come in its
+    // place, and then nothing is written.
+    ensures complete { IfSome (I.left input.old) (λ bytes. (status : Status) × (text : List ℕ) × Answers (named words.now) bytes status text
+        × (¬ (Rose (I.faults input.old) (I.faults input.new)) → ¬ (Rose (O.faults output.old) (O.faults output.new))
+        → IsGiven status text (O.room output.old) (O.written output.old) (O.written output.new) result)) }
     // What `floor` promises: the printed action earns the printed bound less the tail, against every plan of the informed player.
     ensures floor_earns { result ≡ Status.Done → named words.now ≡ Some Floor → IfSome (I.left input.old)
         (λ bytes. WroteOne (FloorPromises bytes) (O.room output.old) (O.written output.old) (O.written output.new)) }
@@ -64,10 +64,11 @@ pub fn run<I: Source, O: Sink>(
     }
 }
 
-/// A law: the answer of each command is defined, so an input has one answer.
+/// A law: the answer of each command is defined, so an input has one answer; and it has one.
 pub fn law_answers()
     ensures work { WorkIsDefined }
     ensures one { AnswersAreOne }
+    ensures some { InputsAreAnswered }
 {
     floor::law_floor();
     check::law_check();

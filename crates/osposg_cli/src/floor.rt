@@ -2,7 +2,7 @@
 ghost use Rattle.game_model.specs.Game.{IsGame, first_at, numbers, span};
 ghost use Rattle.game_model.specs.Numbers.{product};
 ghost use Rattle.game_model.specs.Seeds.{IsSeed};
-ghost use Rattle.osposg_cli.specs.Defined.{IsDefined};
+ghost use Rattle.osposg_cli.specs.Defined.{AreAnswered, IsDefined};
 ghost use Rattle.osposg_cli.specs.Floor.{AnswersFloor, IsBound, IsFloor, IsSeedProduct, KeepsFloor, floor_lines, floor_text};
 ghost use Rattle.osposg_cli.specs.Inputs.{most_input};
 ghost use Rattle.scaled_num.specs.Sums.{below, total};
@@ -32,9 +32,11 @@ pub fn work(alloc: Global, bytes: &[u8]) -> Result<Answer, AllocError>
 /// A law: the answer of `floor` is defined, and keeps its promise.
 pub fn law_floor()
     ensures defined { IsDefined AnswersFloor }
+    ensures some { AreAnswered AnswersFloor }
     ensures keeps { KeepsFloor }
 {
     law_texts();
+    game_text::law_decided_alone();
     law_seeds();
 }
 
