@@ -18,3 +18,10 @@ pub mod Placing
 pub mod Wanted
 pub mod Rests
 pub mod Splitting
+pub mod One
+pub mod OneShare
+pub mod OneSplit
+pub mod OneTakes
+pub mod BestExample
+pub mod FirstBest
+pub mod ToothSplits

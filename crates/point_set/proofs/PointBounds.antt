@@ -83,7 +83,7 @@ belief-small values mass belief value h =
 pub times-low : (mass belief : List ℤ) (times : ℤ) → AllByRecursion (λ x. pos 0 ≤ℤ x) mass → IsMostTimes mass belief times → pos 0 ≤ℤ times
 times-low mass belief times low h = h.most (pos 0) (λ s l. let part : pos 0 ≤ℤ at mass s = each-at (λ x. pos 0 ≤ℤ x) (pos 0) mass s low l in omega (arith, ints))
 
-times-total : (mass belief : List ℤ) (times : ℤ) → length belief ≡ length mass → FitsTimes mass belief times → (times *ℤ sum_of belief) ≤ℤ sum_of mass
+pub times-total : (mass belief : List ℤ) (times : ℤ) → length belief ≡ length mass → FitsTimes mass belief times → (times *ℤ sum_of belief) ≤ℤ sum_of mass
 times-total mass belief times long h =
     let each = total-below-le (length mass) (λ s. times *ℤ at belief s) (at mass) h in
     let left : total (λ s. times *ℤ at belief s) (below (length mass)) ≡ times *ℤ sum_of belief =
@@ -99,7 +99,7 @@ times-room T B most span gap fits room l =
     let second : T * B * span ≤ most * span = mul-le-mul_right span fits in
     omega arith
 
-total-less : (f g : ℕ → ℤ) (ss : List ℕ) → total (λ s. f s -ℤ g s) ss ≡ total f ss -ℤ total g ss
+pub total-less : (f g : ℕ → ℤ) (ss : List ℕ) → total (λ s. f s -ℤ g s) ss ≡ total f ss -ℤ total g ss
 total-less f g [] = refl
 total-less f g (s ∷ ss) = omega (arith, ints, total-less f g ss)
 

@@ -153,10 +153,10 @@ left-none rest n s l = ap (λ (b : Bool). cond b (pos 0) (at rest s)) (lt-ltb s 
 left-all : (rest : List ℤ) (n s : ℕ) → n ≤ s → left_from rest n s ≡ at rest s
 left-all rest n s l = ap (λ (b : Bool). cond b (pos 0) (at rest s)) (le-ltb s n l)
 
-corner-at : (states n : ℕ) → n < states → at (corner_of states n) n ≡ pos 1
+pub corner-at : (states n : ℕ) → n < states → at (corner_of states n) n ≡ pos 1
 corner-at states n l = get_or-set_same (replicate states (pos 0)) n (pos 1) (pos 0) (omega (arith, length-replicate states (pos 0)))
 
-corner-other : (states n s : ℕ) → s < states → (s ≡ n → ⊥) → at (corner_of states n) s ≡ pos 0
+pub corner-other : (states n s : ℕ) → s < states → (s ≡ n → ⊥) → at (corner_of states n) s ≡ pos 0
 corner-other states n s l ne = get_or-set_other (replicate states (pos 0)) n s (pos 1) (pos 0) ne ∙ get_or-replicate states s (pos 0) (pos 0) l
 
 -- giving the n-th corner its part

@@ -29,6 +29,9 @@ measured-beliefs points mass m =
 pub measured-few : (points : List PointData) (mass : List ℤ) → AreMeasured points mass → length mass ≤ 16
 measured-few points mass m = let few = m.accepted.shape.states.1 in omega (arith, m.right.long)
 
+pub measured-some : (points : List PointData) (mass : List ℤ) → AreMeasured points mass → 1 ≤ length mass
+measured-some points mass m = let some = m.accepted.shape.states.0 in omega (arith, m.right.long)
+
 pub measured-sum : (points : List PointData) (mass : List ℤ) → AreMeasured points mass → sum_of mass ≤ℤ pos (2 ^ 66)
 measured-sum points mass m = through (sum_of mass) m.game.shape.row_total m.right.most m.accepted.shape.row_total.1
   where

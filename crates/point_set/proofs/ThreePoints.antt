@@ -1,6 +1,6 @@
--- Three points of two states, and a mass of 2 and 3.
-use Rattle.std.proofs.Common.{◌≡◌, ℕ, zero, suc, ◌^◌, ◌<◌, List, [], ◌∷◌, ◌++◌, length, refl, ap, arith, subst, sym, ◌∙◌, length-append}
-use Rattle.std.specs.Prelude.{ℤ, pos, ◌*ℤ◌, ◌≤ℤ◌}
+-- Three points of two states, and a mass over them.
+use Rattle.std.proofs.Common.{◌≡◌, ℕ, zero, suc, ◌+◌, ◌^◌, ◌<◌, ◌≤◌, List, [], ◌∷◌, ◌++◌, length, refl, ap, arith, subst, sym, ◌∙◌, length-append}
+use Rattle.std.specs.Prelude.{ℤ, pos, ◌+ℤ◌, ◌*ℤ◌, ◌≤ℤ◌}
 use Rattle.std.proofs.lemmas.Int.{ints}
 use Rattle.game_model.specs.Game.{GameData, IsGame}
 use Rattle.belief.specs.Beliefs.{corner_of}
@@ -36,12 +36,12 @@ two-corners p q r h k zero l = record { number = 0; inside = omega arith; corner
 two-corners p q r h k (suc zero) l = record { number = 1; inside = omega arith; corner = k }
 two-corners p q r h k (suc (suc s)) l = absurd (omega arith)
 
-heavy : (t : ℤ) → pos 1 ≤ℤ t → pos 5 ≤ℤ (pos (2 ^ 36) *ℤ t)
-heavy t l = omega (arith, ints)
+heavy : (m n : ℕ) (t : ℤ) → m + n ≤ 2 ^ 36 → pos 1 ≤ℤ t → (pos m +ℤ (pos n +ℤ pos 0)) ≤ℤ (pos (2 ^ 36) *ℤ t)
+heavy m n t few l = omega (arith, ints)
 
-pub three-measured : (g : GameData) (p q r : PointData) → IsGame g → g.shape.states ≡ 2 → PointFits g most_points p → PointFits g most_points q → PointFits g most_points r → IsAtCorner 0 p → IsAtCorner 1 q →
-    AreMeasured (p ∷ q ∷ r ∷ []) (pos 2 ∷ pos 3 ∷ [])
-three-measured g p q r accepted two fp fq fr cp cq = record {
+pub three-measured : (g : GameData) (p q r : PointData) (m n : ℕ) → m + n ≤ 2 ^ 36 → IsGame g → g.shape.states ≡ 2 → PointFits g most_points p → PointFits g most_points q → PointFits g most_points r → IsAtCorner 0 p → IsAtCorner 1 q →
+    AreMeasured (p ∷ q ∷ r ∷ []) (pos m ∷ pos n ∷ [])
+three-measured g p q r m n few accepted two fp fq fr cp cq = record {
   game = g;
   accepted = accepted;
   fit = (fp, (fq, (fr, tt)));
@@ -49,6 +49,6 @@ three-measured g p q r accepted two fp fq fr cp cq = record {
   right = record {
     long = sym two;
     each = (omega (arith, ints), (omega (arith, ints), tt));
-    most = heavy g.shape.row_total accepted.shape.row_total.0;
+    most = heavy m n g.shape.row_total few accepted.shape.row_total.0;
   };
 }

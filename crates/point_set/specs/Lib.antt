@@ -7,3 +7,6 @@ pub mod Sawtooth
 pub mod Bounds
 pub mod Split
 pub mod Takes
+pub mod Best
+pub mod Tooth
+pub mod Laws

@@ -3,6 +3,7 @@
 
 mod corners;
 mod gaps;
+mod laws;
 mod points;
 mod sawtooth;
 mod sets;
@@ -12,12 +13,14 @@ mod split_tests;
 mod splits;
 mod stands;
 mod takes;
+mod teeth;
 #[cfg(test)]
 mod tests;
 mod times;
 mod values;
 
 pub use game_model::Branch as Share;
+pub use laws::{law_bounds, law_splits};
 pub use points::{MOST_SHARE, Point};
 pub use sets::{MOST_POINTS, PointSet, PushFault};
 pub use split::{MOST_ITEMS, Split};

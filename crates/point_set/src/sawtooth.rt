@@ -1,3 +1,4 @@
+ghost use Rattle.point_set.specs.Best.{IsBest};
 ghost use Rattle.point_set.specs.Bounds.{HasRoom, IsLessened, cost_at, cost_size};
 ghost use Rattle.point_set.specs.Kept.{IsKept};
 ghost use Rattle.point_set.specs.Members.{data_of};
@@ -12,27 +13,44 @@ use game_model::MOST_STATES;
 /// The most times for which a product with a weight is formed.
 const MOST_TIMES: i128 = 1 << 100;
 
-/// The sawtooth bound of a mass, where the current corner of each state and the gap of each point are known.
-pub fn sawtooth_bound(
+/// The least bound of a mass, and the first point that has it: no point where no bound is below what the mass costs
+/// at the corners alone.
+#[derive(Clone, Copy)]
+pub struct LeastBound {
+    pub value: i128,
+    pub point: Option<u32>,
+}
+
+/// The least bound of a mass, where the current corner of each state and the gap of each point are known.
+pub fn least_bound(
     points: &[Point],
     corners: &[u32; MOST_STATES],
     gaps: &[i128],
     mass: &[i128],
-) -> i128
+) -> LeastBound
     requires measured { AreMeasured (data_of points.now) mass.now }
     requires kept { IsKept (data_of points.now) corners.now gaps.now }
-    ensures { IsSawtooth (data_of points.now) mass.now result }
+    ensures sawtooth { IsSawtooth (data_of points.now) mass.now result.value }
+    ensures best { IsBest (data_of points.now) mass.now result.point }
 {
     let values = corner_values(points, corners);
     let values = &values[..mass.len()];
     let base = cost(mass, values);
     let mut least = base;
+    let mut best = None;
     for (k, gap) in gaps.iter().enumerate() {
         if *gap < 0 {
-            least = lessened(&points[k], *gap, mass, base, least);
+            let bound = lessened(&points[k], *gap, mass, base, least);
+            if bound < least {
+                least = bound;
+                best = Some(k as u32);
+            }
         }
     }
-    least
+    LeastBound {
+        value: least,
+        point: best,
+    }
 }
 
 /// The lesser of `least` and of what a mass costs where the belief of a point is taken off it as often as it fits,

@@ -1,11 +1,13 @@
 //! The set of a splitting strategy's points.
 
+ghost use Rattle.point_set.specs.Best.{IsBest};
 ghost use Rattle.point_set.specs.Corners.{HasCorner, IsCurrentCorner};
 ghost use Rattle.point_set.specs.Faults.{FailsFirst, SplitsHold};
 ghost use Rattle.point_set.specs.Members.{most_points, point_data};
 ghost use Rattle.point_set.specs.Points.{PointFits, PointStands, no_point, point_of, point_worth, points_of};
 ghost use Rattle.point_set.specs.Sawtooth.{AreCorners, AreMeasured, IsSawtooth};
 ghost use Rattle.point_set.specs.Split.{IsSplit, IsWanted, MakesUp};
+ghost use Rattle.point_set.specs.Tooth.{IsToothSplit, items_cost};
 ghost use Rattle.game_model.specs.Game.{numbers};
 ghost use Rattle.scaled_num.specs.Sums.{sum_of};
 ghost use Rattle.std.specs.List.{AllByRecursion};
@@ -14,9 +16,10 @@ ghost use Rattle.std.specs.Prelude.{IfOk, IfSome, IsErrOf, IsNone, IsOk, OnErr, 
 use crate::corners::{NO_CORNER, corners_with};
 use crate::gaps::renew_gaps;
 use crate::points::Point;
-use crate::sawtooth::sawtooth_bound;
+use crate::sawtooth::least_bound;
 use crate::split::{Split, split_mass};
 use crate::stands::{PointFault, first_fault};
+use crate::teeth::split_tooth;
 use crate::values::worth_after;
 use game_model::{Game, MOST_STATES};
 use std::alloc::{AllocError, Global};
@@ -156,7 +159,16 @@ impl PointSet {
         requires { AreMeasured self.now.members mass.now }
         ensures { IsSawtooth self.now.members mass.now result }
     {
-        sawtooth_bound(&self.points, &self.corners, &self.gaps, mass)
+        least_bound(&self.points, &self.corners, &self.gaps, mass).value
+    }
+
+    /// The first point whose bound at a mass is the least of all, where that bound is below what the mass costs at the
+    /// current corners alone; None where no point's bound is. The mass is as for `sawtooth`. It takes no memory.
+    pub fn best(&self, mass: &[i128]) -> Option<u32>
+        requires { AreMeasured self.now.members mass.now }
+        ensures { IsBest self.now.members mass.now result }
+    {
+        least_bound(&self.points, &self.corners, &self.gaps, mass).point
     }
 
     /// Splits a mass into beliefs of points, by a list of wanted points and weights. The total of the mass is shared
@@ -174,6 +186,20 @@ impl PointSet {
     {
         let corners = self.first_corners(mass.len());
         split_mass(&self.points, corners, wanted, mass, out);
+    }
+
+    /// The split of a mass whose cost is its sawtooth bound: the best point as often as it fits, and what then remains
+    /// at the current corners; the corners alone where there is no best point. The mass is as for `sawtooth`. It takes
+    /// no memory.
+    pub fn tooth_split(&self, mass: &[i128], out: &mut Split)
+        requires { AreMeasured self.now.members mass.now }
+        ensures split { IsToothSplit self.now.members mass.now out.new }
+        ensures makes_up { MakesUp self.now.members out.new mass.now }
+        ensures inside { AllByRecursion (λ item. item.0 < length self.now.members) out.new }
+        ensures cost { IsSawtooth self.now.members mass.now (items_cost self.now.members out.new) }
+    {
+        let corners = self.first_corners(mass.len());
+        split_tooth(&self.points, corners, self.best(mass), mass, out);
     }
 
     /// Whether a point stands: None where the split rule and the value rule hold everywhere. Else the first place

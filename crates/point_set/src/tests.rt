@@ -3,9 +3,10 @@ ghost use Rattle.point_set.specs.Members.{most_points, point_data};
 ghost use Rattle.point_set.specs.Points.{PointFits, most_share};
 ghost use Rattle.point_set.specs.Sawtooth.{AreMeasured};
 ghost use Rattle.std.specs.List.{AllByRecursion};
-ghost use Rattle.std.specs.Prelude.{IfOk, [], neg_ℤ, pos, ◌<◌, ◌∷◌, ◌≡◌};
+ghost use Rattle.scaled_num.specs.Sums.{sum_of};
+ghost use Rattle.std.specs.Prelude.{IfOk, [], neg_ℤ, pos, ℕ, ◌*ℤ◌, ◌+◌, ◌<◌, ◌^◌, ◌∷◌, ◌≡◌, ◌≤◌};
 
-use crate::{Point, PointFault, PointSet, PushFault, Share};
+use crate::{Point, PointFault, PointSet, PushFault, Share, Split};
 use belief::{Belief, Mixes};
 use game_model::{Game, GameBuilder, GameFault, Shape, law_game};
 use std::alloc::{AllocError, Global};
@@ -153,7 +154,7 @@ fn plain_point(alloc: Global, game: &Game, belief: Belief, value: i128) -> Resul
     requires span { span game.now ≡ 65536 }
     requires belief { IsBelief 2 belief }
     requires coprime { AreCoprime belief }
-    requires value { IsWithin (pos 0) (pos 65536) value }
+    requires value { IsWithin (pos 0) (pos 65536 *ℤ sum_of belief) value }
     ensures fits { IfOk result (λ p. PointFits game.now most_points (point_data p)) }
     ensures belief { IfOk result (λ p. p.belief ≡ belief) }
 {
@@ -165,20 +166,20 @@ fn plain_point(alloc: Global, game: &Game, belief: Belief, value: i128) -> Resul
     })
 }
 
-/// The points at both corners and the even one of that game, each of value 65,536.
-fn three_points(alloc: Global, game: &Game) -> Result<PointSet, AllocError>
+/// The points at both corners of that game, each of value 65,536, and a third one.
+fn three_points(alloc: Global, game: &Game, belief: Belief, value: i128) -> Result<PointSet, AllocError>
     requires states { game.now.shape.states ≡ 2 }
     requires informed { game.now.shape.informed_actions ≡ 1 }
     requires span { span game.now ≡ 65536 }
-    ensures { IfOk result (λ set. AreMeasured set.members (pos 2 ∷ pos 3 ∷ [])) }
+    requires belief { IsBelief 2 belief }
+    requires coprime { AreCoprime belief }
+    requires value { IsWithin (pos 0) (pos 65536 *ℤ sum_of belief) value }
+    ensures { IfOk result (λ set. (m n : ℕ) → m + n ≤ 2 ^ 36 → AreMeasured set.members (pos m ∷ pos n ∷ [])) }
 {
     law_game(game);
     let first = plain_point(alloc, game, Belief::corner(2, 0), 65_536)?;
     let second = plain_point(alloc, game, Belief::corner(2, 1), 65_536)?;
-    let Some(even) = Belief::of(&[1, 1]) else {
-        return Err(AllocError);
-    };
-    let third = plain_point(alloc, game, even, 65_536)?;
+    let third = plain_point(alloc, game, belief, value)?;
     let mut set = PointSet::new(alloc, game);
     let Ok(_) = set.push(first) else {
         return Err(AllocError);
@@ -200,12 +201,17 @@ fn the_sawtooth_takes_the_even_point_twice(rt: HostRuntime) {
     assert_eq!(rt; game.states(), 2);
     assert_eq!(rt; game.informed_actions(), 1);
     assert_eq!(rt; game.span(), 65_536);
-    let Ok(mut set) = three_points(rt.alloc(), &game) else {
+    let Some(even) = Belief::of(&[1, 1]) else {
+        panic!(rt; "no belief");
+    };
+    let Ok(mut set) = three_points(rt.alloc(), &game, even, 65_536) else {
         panic!(rt; "out of memory");
     };
     assert_eq!(rt; set.corner(0), 0);
     assert_eq!(rt; set.corner(1), 1);
     assert_eq!(rt; set.sawtooth(&[2, 3]), 196_608);
+    assert_eq!(rt; set.best(&[2, 3]), Some(2));
+    assert_eq!(rt; set.best(&[0, 3]), None);
     let Ok(lower) = plain_point(rt.alloc(), &game, Belief::corner(2, 1), 65_535) else {
         panic!(rt; "out of memory");
     };
@@ -224,4 +230,26 @@ fn an_empty_set_reserves_two_places(rt: HostRuntime) {
     let mut set = PointSet::new(rt.alloc(), &game);
     assert!(rt; matches!(set.reserve(2), Ok(())));
     assert_eq!(rt; set.len(), 0);
+}
+
+#[test]
+fn a_tooth_split_takes_the_best_point_and_a_corner(rt: HostRuntime) {
+    let Ok(game) = two_states(rt.alloc()) else {
+        panic!(rt; "the game is refused");
+    };
+    assert_eq!(rt; game.states(), 2);
+    assert_eq!(rt; game.informed_actions(), 1);
+    assert_eq!(rt; game.span(), 65_536);
+    let Some(belief) = Belief::of(&[1, 2]) else {
+        panic!(rt; "no belief");
+    };
+    let Ok(set) = three_points(rt.alloc(), &game, belief, 98_304) else {
+        panic!(rt; "out of memory");
+    };
+    let mut split = Split::new();
+    set.tooth_split(&[65_536, 65_536], &mut split);
+    assert_eq!(rt; split.len(), 2);
+    assert!(rt; split.item(0) == (0, 32_768));
+    assert!(rt; split.item(1) == (2, 32_768));
+    assert_eq!(rt; set.sawtooth(&[65_536, 65_536]), 32_768 * 163_840);
 }

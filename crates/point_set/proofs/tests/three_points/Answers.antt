@@ -22,6 +22,6 @@ returns c =
     c.in-Ok-push-2.ensures.added
     ∙ ap (λ (ps : List PointData). ps ++ r ∷ []) (c.in-Ok-push.ensures.added
     ∙ ap (λ (ps : List PointData). ps ++ q ∷ []) (c.in-Ok.ensures.added ∙ ap (λ (ps : List PointData). ps ++ p ∷ []) c.new-set.ensures.none)) in
-    subst (λ (ps : List PointData). AreMeasured ps (pos 2 ∷ pos 3 ∷ [])) (sym all)
-    (three-measured c.args.game.now p q r c.law_game.ensures.accepted c.requires.states c.in_ok-first.ensures.fits c.in_ok-second.ensures.fits c.in_ok-third.ensures.fits
+    λ m n few. subst (λ (ps : List PointData). AreMeasured ps (pos m ∷ pos n ∷ [])) (sym all)
+    (three-measured c.args.game.now p q r m n few c.law_game.ensures.accepted c.requires.states c.in_ok-first.ensures.fits c.in_ok-second.ensures.fits c.in_ok-third.ensures.fits
     (two-corner p 0 (omega arith) (c.in_ok-first.ensures.belief ∙ c.corner.ensures)) (two-corner q 1 (omega arith) (c.in_ok-second.ensures.belief ∙ c.corner-2.ensures)))
