@@ -7,7 +7,7 @@ use Rattle.text_words.specs.Forms.{number_at}
 use Rattle.game_model.specs.Branches.{Branch, IsBranchBefore, mix_total}
 use Rattle.game_model.specs.Game.{AreCoprime, GameData, IsWithin, span}
 use Rattle.point_set.specs.Points.{most_share}
-use Rattle.controller.specs.Certificates.{most_members}
+use Rattle.game_model.specs.Limits.{most_members}
 use Rattle.cert_text.specs.declared.fault.CertKind.{CertKind}
 use Rattle.cert_text.specs.declared.fault.CertKind.TheVariants as kinds
 use Rattle.cert_text.specs.Fault.{number_of_kind}

@@ -1,4 +1,5 @@
 -- A certificate: when it fits a game, when it stands, and the first place where it does not.
+use Rattle.game_model.specs.Limits.{most_members}
 use Rattle.std.specs.Prelude.{ℕ, ℤ, pos, ◌-ℤ◌, ◌*ℤ◌, ◌≤ℤ◌, List, [], ◌∷◌, ◌++◌, map, flat_map, cond, length, ◌≡◌, ◌<◌, ◌≤◌, ◌^◌, ◌*◌, ◌==◌, slice_index_or, sum_by, unsigned_abs}
 use Rattle.std.specs.List.{AllByRecursion}
 use Rattle.scaled_num.specs.Sums.{below, total}
@@ -27,9 +28,12 @@ pub record CertificateData : Type 0 where
   pub start_node : ℕ
   pub start_point : ℕ
 
--- at most so many nodes, and so many points
-abbrev pub most_members : ℕ
-most_members = 1024
+-- the greatest numerator of a gap, and the greatest denominator
+abbrev pub most_gap : ℕ
+most_gap = 2 ^ 40
+
+abbrev pub most_gap_under : ℕ
+most_gap_under = 2 ^ 20
 
 -- the first number of 37 digits
 abbrev pub short_end : ℕ
@@ -38,13 +42,6 @@ short_end = 10 ^ 36
 -- a numerator and a positive denominator of at most 36 digits
 abbrev pub IsShort : FractionData → Type 0
 IsShort f = (unsigned_abs f.num < short_end) × (pos 1 ≤ℤ f.den) × (unsigned_abs f.den < short_end)
-
--- the greatest numerator and the greatest denominator of a gap
-abbrev pub most_gap : ℕ
-most_gap = 2 ^ 40
-
-abbrev pub most_gap_under : ℕ
-most_gap_under = 2 ^ 20
 
 -- a tolerance within its limits
 abbrev pub IsGap : FractionData → Type 0

@@ -1,3 +1,5 @@
+//! Laws of plans, plays and pay, and of seed vectors, as functions that do nothing.
+
 ghost use Rattle.game_model.specs.Laws.{AlwaysEarns, AlwaysEarnsFamily, AlwaysIsPlan, FirstStepsByParts, PayByFirstSteps, PlaysAreListed};
 ghost use Rattle.game_model.specs.Laws.{PlaysAreLong, PlaysAreOnce, PlaysByFirstSteps, RowsAdd, RowsScale, RowsSum, WeightsOfPlays};
 ghost use Rattle.game_model.specs.Mixed.{MixedAreRight, MixedPay, ScaledAreRight, ScaledPay};
