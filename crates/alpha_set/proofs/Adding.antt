@@ -6,7 +6,7 @@ use Rattle.std.proofs.lemmas.Int.{ints, fits_signed_from_abs, unsigned_abs-mul}
 use Rattle.std.proofs.lemmas.Nat.{mul-le}
 use Rattle.std.proofs.lemmas.List.{get_or-set_same, get_or-set_other, length-set}
 use Rattle.std.proofs.lemmas.Bool.Decides.{eqb_tells}
-use Rattle.alpha_set.specs.Members.{brought, entry_at, table_place}
+use Rattle.alpha_set.specs.Members.{brought, entry_at, table_index}
 use Rattle.game_model.specs.declared.branches.Branch.{Branch as StepParts}
 use Rattle.scaled_num.proofs.Products.{abs-add}
 
@@ -81,7 +81,7 @@ away x y t m lt lm ne = elim (tri x y) [ inl b ↦ inl (omega arith) | inr r ↦
 none-added : (z : ℤ) → z ≡ z +ℤ pos 0
 none-added z = omega (arith, ints)
 
-pub added-at : (step : StepParts) (old vector table : List ℤ) (start n : ℕ) → start ≡ table_place step.a step.o 0 → length vector ≡ n → length vector ≤ 16 → step.o < 8 →
+pub added-at : (step : StepParts) (old vector table : List ℤ) (start n : ℕ) → start ≡ table_index step.a step.o 0 → length vector ≡ n → length vector ≤ 16 → step.o < 8 →
     Added old vector table start n step.weight → (a o t : ℕ) → o < 8 → t < length vector → entry_at table a o t ≡ entry_at old a o t +ℤ brought step vector a o t
 added-at step old vector table start n at same few seen h a o t lo lt =
     elim (eqb_tells step.a a) [
@@ -92,12 +92,12 @@ added-at step old vector table start n at same few seen h a o t lo lt =
       | inr e ↦ rw e.0 (other (λ e'. e.1 (omega arith)))
     ]
   where
-    here : step.a ≡ a → step.o ≡ o → start + t ≡ table_place a o t
+    here : step.a ≡ a → step.o ≡ o → start + t ≡ table_index a o t
     here e f = omega (arith, at)
 
     other : (a * 8 + o ≡ step.a * 8 + step.o → ⊥) → entry_at table a o t ≡ entry_at old a o t +ℤ pos 0
     other ne =
-        let far : (table_place a o t < table_place step.a step.o 0) ⊎ (table_place step.a step.o 0 + length vector ≤ table_place a o t) =
+        let far : (table_index a o t < table_index step.a step.o 0) ⊎ (table_index step.a step.o 0 + length vector ≤ table_index a o t) =
         away (a * 8 + o) (step.a * 8 + step.o) t (length vector) (omega arith) few ne in
-        h.left (table_place a o t) (subst (λ (k : ℕ). (table_place a o t < k) ⊎ (k + n ≤ table_place a o t)) (sym at) (subst (λ (m : ℕ). (table_place a o t < table_place step.a step.o 0) ⊎ (table_place step.a step.o 0 + m ≤ table_place a o t)) same far))
+        h.left (table_index a o t) (subst (λ (k : ℕ). (table_index a o t < k) ⊎ (k + n ≤ table_index a o t)) (sym at) (subst (λ (m : ℕ). (table_index a o t < table_index step.a step.o 0) ⊎ (table_index step.a step.o 0 + m ≤ table_index a o t)) same far))
         ∙ none-added (entry_at old a o t)

@@ -15,7 +15,7 @@ use Rattle.game_model.proofs.Pay.{each-from}
 use Rattle.game_model.proofs.Sizes.{total-more}
 use Rattle.game_model.proofs.Worth.{span-small, total-bound}
 use Rattle.alpha_set.specs.Nodes.{NodeData, NodeFits, Step, no_node, node_of, nodes_of, step_of, steps_worth}
-use Rattle.alpha_set.specs.Members.{HoldsWorths, IsMember, IsTable, brought, data_of, entry_at, most_nodes, node_data, table_length, table_place}
+use Rattle.alpha_set.specs.Members.{HoldsWorths, IsMember, IsTable, brought, data_of, entry_at, most_nodes, node_data, table_length, table_index}
 use Rattle.alpha_set.specs.declared.nodes.Node.{Node as NodeParts}
 use Rattle.game_model.specs.declared.branches.Branch.{Branch as StepParts}
 use Rattle.scaled_num.proofs.Each.{each-of-map, get-map}
@@ -211,7 +211,7 @@ length-none (suc n) = ap suc (length-none n)
 
 pub filled-none : (g : GameData) (nodes : List NodeParts) (steps : List StepParts) (table : List ℤ) → table ≡ replicate table_length (pos 0) → Filled g nodes steps 0 table
 filled-none g nodes steps table e =
-    subst (λ (ts : List ℤ). Filled g nodes steps 0 ts) (sym e) (record { long = length-none table_length; entries = λ a o t lo lt. entry-none table_length (table_place a o t) })
+    subst (λ (ts : List ℤ). Filled g nodes steps 0 ts) (sym e) (record { long = length-none table_length; entries = λ a o t lo lt. entry-none table_length (table_index a o t) })
 
 -- a table filled by all steps
 pub filled-table : (g : GameData) → IsGame g → (nodes : List NodeParts) (node : NodeParts) → IsMember g nodes node → (i : ℕ) (table : List ℤ) → Filled g nodes node.next.items i table → length node.next.items ≤ i →

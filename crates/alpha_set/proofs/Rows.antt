@@ -19,7 +19,7 @@ use Rattle.game_model.proofs.Pay.{each-from}
 use Rattle.game_model.proofs.Rows.{row-landings}
 use Rattle.game_model.proofs.Sizes.{total-more}
 use Rattle.game_model.proofs.Worth.{span-small}
-use Rattle.alpha_set.specs.Members.{IsTable, entry_at, table_place}
+use Rattle.alpha_set.specs.Members.{IsTable, entry_at, table_index}
 use Rattle.alpha_set.proofs.Totals.{abs-within}
 use Rattle.scaled_num.proofs.Products.{abs-add}
 
@@ -47,7 +47,7 @@ pub record RowSoFar (g : GameData) (row : List Landing) (table : List ℤ) (a i 
 pub record NextLanding (g : GameData) (row : List Landing) (table : List ℤ) (a i : ℕ) (sum : ℤ) : Type 0 where
   pub seen : (get_or row i none).seen < 8
   pub to : (get_or row i none).to < 16
-  pub inside : table_place a (get_or row i none).seen (get_or row i none).to < length table
+  pub inside : table_index a (get_or row i none).seen (get_or row i none).to < length table
   pub weight_fits : FitsSigned w128 (get_or row i none).weight
   pub entry_fits : FitsSigned w128 (entry_at table a (get_or row i none).seen (get_or row i none).to)
   pub product_fits : FitsSigned w128 (term table a (get_or row i none))

@@ -1,4 +1,5 @@
 -- Nodes and steps of the program as the data that the rules speak of, and the table of what steps are worth.
+use Rattle.game_model.specs.Limits.{most_states, most_actions, most_observations, most_members}
 use Rattle.std.specs.Prelude.{ℕ, ℤ, pos, List, length, map, cond, unsigned_abs, slice_index_or, ◌≡◌, ◌+◌, ◌*◌, ◌+ℤ◌, ◌*ℤ◌, ◌≤ℤ◌, ◌<◌, ◌≤◌, ◌==◌, ◌&&◌}
 use Rattle.std.specs.List.{AllByRecursion}
 use Rattle.scaled_num.specs.Sums.{below, total}
@@ -22,7 +23,7 @@ data_of nodes = map node_data nodes
 
 -- the most nodes of a set
 abbrev pub most_nodes : ℕ
-most_nodes = 1024
+most_nodes = most_members
 
 -- a node and all nodes that its steps may name fit the game
 pub record IsMember (g : GameData) (nodes : List NodeParts) (node : NodeParts) : Type 0 where
@@ -32,13 +33,13 @@ pub record IsMember (g : GameData) (nodes : List NodeParts) (node : NodeParts) :
 
 -- What steps are worth stands in a table, by own action, observation and next state.
 abbrev pub table_length : ℕ
-table_length = 768
+table_length = most_actions * most_observations * most_states
 
-abbrev pub table_place : ℕ → ℕ → ℕ → ℕ
-table_place a o t = (a * 8 + o) * 16 + t
+abbrev pub table_index : ℕ → ℕ → ℕ → ℕ
+table_index a o t = (a * most_observations + o) * most_states + t
 
 abbrev pub entry_at : List ℤ → ℕ → ℕ → ℕ → ℤ
-entry_at table a o t = slice_index_or table (table_place a o t) (pos 0)
+entry_at table a o t = slice_index_or table (table_index a o t) (pos 0)
 
 -- the table holds what the steps of a node are worth
 abbrev pub HoldsWorths : GameData → (ℕ → Node) → Node → List ℤ → Type 0

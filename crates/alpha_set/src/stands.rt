@@ -1,3 +1,5 @@
+//! The first place at which a node does not stand.
+
 ghost use Rattle.alpha_set.specs.Faults.{FailsFirstAt, NodeFailsFirst};
 ghost use Rattle.alpha_set.specs.Members.{HoldsBy, IsMember, IsTable, data_of, most_nodes, node_data, paid};
 ghost use Rattle.alpha_set.specs.Nodes.{IsMix, NodeFits, NodeStands, node_of, nodes_of};

@@ -1,3 +1,5 @@
+//! Worked sets of nodes.
+
 ghost use Rattle.alpha_set.specs.Members.{most_nodes, node_data};
 ghost use Rattle.alpha_set.specs.Nodes.{NodeFits};
 ghost use Rattle.game_model.specs.Game.{IsMass, IsWithin, span};

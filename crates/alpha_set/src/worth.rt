@@ -1,4 +1,6 @@
-ghost use Rattle.alpha_set.specs.Members.{data_of};
+//! What nodes are worth at a mass.
+
+ghost use Rattle.alpha_set.specs.Members.{data_of, most_nodes};
 ghost use Rattle.alpha_set.specs.Products.{AreNarrow, AreShort, CanMultiply, HaveNarrowEntries, IsFirstBest, IsGathered, node_product_of, product_of};
 ghost use Rattle.alpha_set.specs.Worth.{AreWeighed, IsWorth};
 ghost use Rattle.std.specs.Bool.{IsTrue};
@@ -31,7 +33,7 @@ pub fn are_narrow(numbers: &[i128]) -> bool
 /// entries are known to be narrow.
 pub fn greatest(nodes: &[Node], narrow: bool, mass: &[i128]) -> (i128, u32)
     requires some { 1 ≤ length nodes.now }
-    requires few { length nodes.now ≤ 1024 }
+    requires few { length nodes.now ≤ most_nodes }
     requires narrow { IsTrue narrow → HaveNarrowEntries (data_of nodes.now) }
     requires weighed { AreWeighed (data_of nodes.now) mass.now }
     ensures { IsWorth (data_of nodes.now) mass.now result.0 result.1 }
@@ -65,7 +67,7 @@ fn gather(mass: &[i128], portions: &mut [Portion]) -> usize
 /// The greatest product of a node's vector with portions, and the first node that has it.
 fn first_greatest(nodes: &[Node], portions: &[Portion], short: bool) -> (i128, u32)
     requires some { 1 ≤ length nodes.now }
-    requires few { length nodes.now ≤ 1024 }
+    requires few { length nodes.now ≤ most_nodes }
     requires each { AllByRecursion (λ node. CanMultiply portions.now node.vector) (data_of nodes.now) }
     requires short { IsTrue short → AllByRecursion (λ node. AreShort portions.now node.vector) (data_of nodes.now) }
     ensures { IsFirstBest (node_product_of (data_of nodes.now) portions.now) (length nodes.now) result.0 result.1 }

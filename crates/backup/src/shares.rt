@@ -1,3 +1,4 @@
+ghost use Rattle.game_model.specs.Limits.{most_states};
 ghost use Rattle.backup.specs.Seeds.{corner_shares, has_weight};
 ghost use Rattle.backup.specs.Shares.{AreOver, own_shares, row_shares, seen_shares};
 ghost use Rattle.game_model.specs.Branches.{branch_of};
@@ -71,7 +72,7 @@ fn add_seen(
 
 /// Adds a share for each mass that is not zero.
 fn add_row(masses: &[i128], a: u32, o: u32, shares: &mut Vec<Share>) -> Result<(), AllocError>
-    requires { length masses.now ≤ 16 }
+    requires { length masses.now ≤ most_states }
     ensures { OnOk result (map branch_of shares.new.items ≡ map branch_of shares.old.items ++ filter has_weight (row_shares (at masses.now) a o (length masses.now))) }
 {
     for (t, weight) in masses.iter().enumerate() {

@@ -1,11 +1,12 @@
 -- What beliefs and mixes keep, and the functions that clauses read from them.
+use Rattle.game_model.specs.Limits.{most_states, most_actions}
 use Rattle.std.specs.Prelude.{ℕ, ℤ, pos, List, length, replicate, ◌≤◌, slice_index_or, slice_set, unsigned_abs}
 use Rattle.game_model.specs.Game.{AreCoprime, GameData, IsBelief}
 use Rattle.belief.specs.Mixes.{AreMixes, MixesData, mix_at}
 
--- the parts of a belief: at most 16, whose total is 1 to 2^20, and coprime
+-- the parts of a belief: one for each of not too many states, coprime, with a total of at least 1
 pub record AreParts (parts : List ℤ) : Type 0 where
-  pub few : length parts ≤ 16
+  pub few : length parts ≤ most_states
   pub belief : IsBelief (length parts) parts
   pub coprime : AreCoprime parts
 
@@ -25,8 +26,8 @@ mix_weight mixes s c = unsigned_abs (mix_at mixes s c)
 abbrev pub mixes_for : GameData → List ℤ → MixesData
 mixes_for g weights = record { states = g.shape.states; actions = g.shape.informed_actions; weights = weights }
 
--- mixes for at most 16 states and 6 informed actions
+-- mixes for the states and informed actions of a game
 pub record AreKept (mixes : MixesData) : Type 0 where
-  pub states : mixes.states ≤ 16
-  pub actions : mixes.actions ≤ 6
+  pub states : mixes.states ≤ most_states
+  pub actions : mixes.actions ≤ most_actions
   pub right : AreMixes mixes

@@ -1,4 +1,5 @@
 -- Masses in the making.
+use Rattle.game_model.specs.Limits.{most_row_total}
 use Rattle.std.specs.Prelude.{ℕ, ℤ, pos, Bool, List, length, cond, ◌*◌, ◌^◌, ◌<◌, ◌≤◌, ◌≤ℤ◌, ◌==◌, slice_index_or, sum_by, unsigned_abs}
 use Rattle.std.specs.List.{AllByRecursion}
 use Rattle.scaled_num.specs.Sums.{below}
@@ -23,7 +24,7 @@ landed landings t = sum_by (λ (l : Landing). cond (l.to == t) (unsigned_abs l.w
 pub record AreLandings (states : ℕ) (landings : List Landing) : Type 0 where
   pub inside : AllByRecursion (λ (l : Landing). l.to < states) landings
   pub positive : AllByRecursion (λ (l : Landing). pos 0 ≤ℤ l.weight) landings
-  pub light : sum_by (λ (l : Landing). unsigned_abs l.weight) landings ≤ 2 ^ 30
+  pub light : sum_by (λ (l : Landing). unsigned_abs l.weight) landings ≤ most_row_total
 
 -- what a state of this weight brings to a next state
 abbrev pub from_state : GameData → MixesData → ℕ → ℕ → ℕ → ℕ → ℕ → ℕ

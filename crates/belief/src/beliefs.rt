@@ -1,3 +1,6 @@
+//! Beliefs over the states, in lowest terms.
+
+ghost use Rattle.game_model.specs.Limits.{most_states, most_belief};
 ghost use Rattle.belief.specs.Beliefs.{AreParts, corner_of};
 ghost use Rattle.game_model.specs.Game.{AreCoprime, IsBelief, IsWithin};
 ghost use Rattle.scaled_num.specs.Sums.{sum_of};
@@ -32,7 +35,7 @@ impl Belief {
     /// or the parts have a common divisor. It takes no memory.
     pub fn of(parts: &[i128]) -> Option<Belief>
         requires some { 1 ≤ length parts.now }
-        requires few { length parts.now ≤ 16 }
+        requires few { length parts.now ≤ most_states }
         ensures given { IfSome result (λ belief. belief ≡ parts.now) }
         ensures exactly { IsSome result ↔ (IsBelief (length parts.now) parts.now × AreCoprime parts.now) }
     {
@@ -67,7 +70,7 @@ impl Belief {
     /// The belief that is sure of state `s`, among so many states.
     pub fn corner(states: u32, s: u32) -> Belief
         requires state { s < states }
-        requires few { states ≤ 16 }
+        requires few { states ≤ most_states }
         ensures { result ≡ corner_of states s }
     {
         let mut weights = [0; MOST_STATES];
@@ -113,7 +116,7 @@ impl Belief {
 
 /// Whether each weight is 0 to 2^20.
 fn are_weights(weights: &[i128]) -> bool
-    ensures { IsTrue result ↔ AllByRecursion (IsWithin (pos 0) (pos (2 ^ 20))) weights.now }
+    ensures { IsTrue result ↔ AllByRecursion (IsWithin (pos 0) (pos most_belief)) weights.now }
 {
     weights
         .iter()
@@ -122,14 +125,14 @@ fn are_weights(weights: &[i128]) -> bool
 
 /// Whether this is the total of a belief.
 fn is_total(total: i128) -> bool
-    ensures { IsTrue result ↔ IsWithin (pos 1) (pos (2 ^ 20)) total }
+    ensures { IsTrue result ↔ IsWithin (pos 1) (pos most_belief) total }
 {
     1 <= total && total <= MOST_BELIEF
 }
 
 /// Whether nothing but 1 divides all weights.
 fn are_coprime(weights: &[i128]) -> bool
-    requires { AllByRecursion (IsWithin (pos 0) (pos (2 ^ 20))) weights.now }
+    requires { AllByRecursion (IsWithin (pos 0) (pos most_belief)) weights.now }
     ensures { IsTrue result ↔ AreCoprime weights.now }
 {
     common_divisor(weights) == 1

@@ -1,3 +1,5 @@
+//! Greatest common divisors, and lists divided by one.
+
 ghost use Rattle.belief.specs.Quotients.{quotients};
 ghost use Rattle.std.specs.List.{AllByRecursion};
 ghost use Rattle.std.specs.Prelude.{pos, unsigned_abs, ◌/◌, ◌<◌, ◌≡◌, ◌≤ℤ◌};

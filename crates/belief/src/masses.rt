@@ -1,3 +1,6 @@
+//! The mass that a belief and mixes bring on.
+
+ghost use Rattle.game_model.specs.Limits.{most_belief};
 ghost use Rattle.belief.specs.Beliefs.{mix_weight, weight_at};
 ghost use Rattle.belief.specs.Masses.{AreBelow, AreLandings, IsSeen, from_state, landed};
 ghost use Rattle.belief.specs.Mixes.{mass_of};
@@ -35,7 +38,7 @@ fn add_state(game: &Game, mixes: &Mixes, s: u32, a: u32, o: u32, weight: i128, o
     requires actions { mixes.now.actions ≡ game.now.shape.informed_actions }
     requires state { s < game.now.shape.states }
     requires own { a < game.now.shape.own_actions }
-    requires weight { IsWithin (pos 0) (pos (2 ^ 20)) weight }
+    requires weight { IsWithin (pos 0) (pos most_belief) weight }
     requires places { length out.old ≡ game.now.shape.states }
     requires room { AreBelow (pos (2 ^ 90)) out.old }
     ensures { (t : ℕ) → t < length out.old → slice_index_or out.new t (pos 0) ≡ (slice_index_or out.old t (pos 0)) +ℤ pos (from_state game.now mixes.now (unsigned_abs weight) s a o t) }

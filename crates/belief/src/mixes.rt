@@ -1,3 +1,6 @@
+//! Mixes of the informed player, one for each state.
+
+ghost use Rattle.game_model.specs.Limits.{most_states, most_actions};
 ghost use Rattle.belief.specs.Beliefs.{AreKept, mixes_for};
 ghost use Rattle.belief.specs.Mixes.{AreMixes, mix_at, pure_mixes};
 ghost use Rattle.belief.specs.Sure.{sure};
@@ -114,8 +117,8 @@ impl Mixes {
 
 /// Puts the whole weight of each state on its chosen action.
 fn choose(choice: &[u32], actions: usize, weights: &mut [i128])
-    requires few { length choice.now ≤ 16 }
-    requires small { actions ≤ 6 }
+    requires few { length choice.now ≤ most_states }
+    requires small { actions ≤ most_actions }
     requires chosen { AllByRecursion (λ chosen. chosen < actions) choice.now }
     requires zeros { weights.old ≡ replicate (length choice.now * actions) (pos 0) }
     ensures { weights.new ≡ flat_map (sure actions) choice.now }

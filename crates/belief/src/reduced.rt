@@ -1,3 +1,6 @@
+//! The belief that a mass is reduced to.
+
+ghost use Rattle.game_model.specs.Limits.{most_states};
 ghost use Rattle.belief.specs.Reduced.{IsReduced, IsSharedOut};
 ghost use Rattle.scaled_num.specs.Sums.{sum_of};
 ghost use Rattle.std.specs.Int.{◌∣◌};
@@ -14,7 +17,7 @@ use scaled_num::{common_divisor, sum, take_share};
 /// common divisor. None exactly where the mass is zero everywhere. It takes no memory.
 pub fn reduce(mass: &[i128]) -> Option<Belief>
     requires some { 1 ≤ length mass.now }
-    requires few { length mass.now ≤ 16 }
+    requires few { length mass.now ≤ most_states }
     requires weights { AllByRecursion (λ x. pos 0 ≤ℤ x) mass.now }
     requires total { sum_of mass.now ≤ℤ pos (2 ^ 100) }
     ensures none { IsNone result ↔ AllByRecursion (λ x. x ≡ pos 0) mass.now }
@@ -30,7 +33,7 @@ pub fn reduce(mass: &[i128]) -> Option<Belief>
 /// The belief of a mass with this greatest common divisor.
 fn divided(mass: &[i128], divisor: u128) -> Belief
     requires some { 1 ≤ length mass.now }
-    requires few { length mass.now ≤ 16 }
+    requires few { length mass.now ≤ most_states }
     requires weights { AllByRecursion (λ x. pos 0 ≤ℤ x) mass.now }
     requires total { sum_of mass.now ≤ℤ pos (2 ^ 100) }
     requires positive { 0 < divisor }
@@ -51,7 +54,7 @@ fn divided(mass: &[i128], divisor: u128) -> Belief
 /// The belief whose parts are the greatest total of a belief, shared by these weights, in lowest terms.
 fn shared_out(weights: &[i128]) -> Belief
     requires some { 1 ≤ length weights.now }
-    requires few { length weights.now ≤ 16 }
+    requires few { length weights.now ≤ most_states }
     requires weights { AllByRecursion (λ x. pos 0 ≤ℤ x) weights.now }
     requires total { sum_of weights.now ≤ℤ pos (2 ^ 100) }
     ensures { IsSharedOut weights.now result }

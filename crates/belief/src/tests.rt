@@ -1,3 +1,5 @@
+//! Worked beliefs, mixes and masses.
+
 use crate::{Belief, Mixes, mass, reduce};
 use game_model::{Game, GameBuilder, GameFault, Shape, law_game};
 use std::alloc::Global;

@@ -1,4 +1,5 @@
 -- What a certificate that fits gives to the tests of its members.
+use Rattle.game_model.specs.Limits.{most_members}
 use Rattle.std.proofs.Common.{ℕ, ◌<◌, ◌≤◌, List, length, get_or, arith}
 use Rattle.std.specs.Prelude.{ℤ}
 use Rattle.std.specs.List.{AllByRecursion}
@@ -9,7 +10,7 @@ use Rattle.game_model.specs.Numbers.{Numbers}
 use Rattle.game_model.proofs.Pay.{each-from}
 use Rattle.alpha_set.specs.Nodes.{NodeFits, no_node}
 use Rattle.point_set.specs.Points.{PointFits, no_point}
-use Rattle.controller.specs.Certificates.{CertificateData, CertificateFits, most_members}
+use Rattle.controller.specs.Certificates.{CertificateData, CertificateFits}
 
 branches-more : (g : Numbers) (n m : ℕ) (most : ℤ) (bs : List Branch) → n ≤ m → AreBranches g n most bs → AreBranches g m most bs
 branches-more g n m most bs l h =

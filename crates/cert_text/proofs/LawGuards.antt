@@ -1,4 +1,5 @@
 -- What each test of a line says.
+use Rattle.game_model.specs.Limits.{most_members}
 use Rattle.std.proofs.Common.{◌≡◌, ℕ, ◌<◌, ◌≤◌, true, ◌&&◌, ◌||◌, eqb, ltb, List, [], ◌∷◌, Ok, ℤ, pos, refl, ap, subst, ◌∙◌, arith, inl, inr, ◌⊎◌}
 use Rattle.std.specs.Prelude.{◌≤ℤ◌, unsigned_abs, int_le, int_lt, ◌==◌, nat_lt}
 use Rattle.std.specs.List.{AllByRecursion, list_all}
@@ -10,7 +11,7 @@ use Rattle.text_words.specs.Forms.{is_within}
 use Rattle.text_words.proofs.Limits.{cond_ok, and_true, true_and, or_true, or_last, le_from, lt_from, le_to, lt_to, within_from, within_to, pos_abs, each_from, each_to}
 use Rattle.game_model.specs.Branches.{mix_total}
 use Rattle.game_model.specs.Game.{IsWithin, AreCoprime}
-use Rattle.controller.specs.Certificates.{most_members}
+use Rattle.controller.specs.Certificates.{}
 use Rattle.cert_text.specs.declared.fault.CertKind.TheVariants as kinds
 use Rattle.cert_text.specs.declared.place.Latest.{Latest}
 use Rattle.cert_text.specs.declared.place.Latest.TheVariants as latest

@@ -1,4 +1,5 @@
 -- What a line says, and the words of a line that says it.
+use Rattle.game_model.specs.Limits.{most_members}
 use Rattle.std.proofs.Common.{◌≡◌, ℕ, ◌+◌, ◌^◌, ◌<◌, ◌≤◌, Bool, true, false, cond, List, [], ◌∷◌, length, take, drop, Result, Ok, ℤ, pos, refl, ap, subst, ◌∙◌, arith, inl, inr, ◌⊎◌}
 use Rattle.std.specs.Prelude.{◌≤ℤ◌, ◌*ℤ◌, neg_ℤ, codes, nat_lt, slice_index_or}
 use Rattle.std.specs.List.{AllByRecursion}
@@ -13,7 +14,7 @@ use Rattle.text_words.proofs.Numerals.{Small, numbered, numbers_after-ok, number
 use Rattle.game_model.specs.Branches.{Branch, mix_total}
 use Rattle.game_model.specs.Game.{IsWithin, AreCoprime}
 use Rattle.point_set.specs.Points.{most_share}
-use Rattle.controller.specs.Certificates.{Ending, FractionData, IsShort, most_members}
+use Rattle.controller.specs.Certificates.{Ending, FractionData, IsShort}
 use Rattle.cert_text.specs.declared.fault.CertKind.{CertKind}
 use Rattle.cert_text.specs.declared.fault.CertKind.TheVariants as kinds
 use Rattle.cert_text.specs.declared.place.Limits.{Limits}

@@ -1,4 +1,5 @@
 -- What the words and numbers of one line say, or the least kind of fault.
+use Rattle.game_model.specs.Limits.{most_members}
 use Rattle.std.specs.Prelude.{ℕ, zero, suc, ◌%◌, ◌==◌, nat_lt, ◌&&◌, ◌||◌, Bool, false, List, [], ◌∷◌, Result, Ok, Err, ℤ, pos, int_lt, int_le, unsigned_abs, if◌then◌else◌, codes}
 use Rattle.std.specs.List.{list_all, slice_split}
 use Rattle.std.specs.Option.{ok_or}
@@ -9,7 +10,7 @@ use Rattle.text_words.specs.Numbers.{number_of}
 use Rattle.text_words.specs.Forms.{◌>>=◌, is_within}
 use Rattle.text_words.specs.Forms as forms
 use Rattle.game_model.specs.Branches.{mix_total}
-use Rattle.controller.specs.Certificates.{Closed, Ending, FractionData, Full as FullRun, Trials, most_members}
+use Rattle.controller.specs.Certificates.{Closed, Ending, FractionData, Full as FullRun, Trials}
 use Rattle.cert_text.specs.declared.fault.CertKind.{CertKind}
 use Rattle.cert_text.specs.declared.fault.CertKind.TheVariants as kinds
 use Rattle.cert_text.specs.declared.place.Latest.{Latest}

@@ -1,4 +1,5 @@
 -- A certificate: when it fits a game, when it stands, and the first place where it does not.
+use Rattle.game_model.specs.Limits.{most_members}
 use Rattle.std.specs.Prelude.{ℕ, ℤ, pos, ◌-ℤ◌, ◌*ℤ◌, ◌≤ℤ◌, List, [], ◌∷◌, ◌++◌, map, flat_map, cond, length, ◌≡◌, ◌<◌, ◌≤◌, ◌^◌, ◌*◌, ◌==◌, slice_index_or, sum_by, unsigned_abs}
 use Rattle.std.specs.List.{AllByRecursion}
 use Rattle.scaled_num.specs.Sums.{below, total}
@@ -27,13 +28,20 @@ pub record CertificateData : Type 0 where
   pub start_node : ℕ
   pub start_point : ℕ
 
--- at most so many nodes, and so many points
-abbrev pub most_members : ℕ
-most_members = 1024
+-- the greatest numerator of a gap, and the greatest denominator
+abbrev pub most_gap : ℕ
+most_gap = 2 ^ 40
+
+abbrev pub most_gap_under : ℕ
+most_gap_under = 2 ^ 20
+
+-- the first number of 37 digits
+abbrev pub short_end : ℕ
+short_end = 10 ^ 36
 
 -- a numerator and a positive denominator of at most 36 digits
 abbrev pub IsShort : FractionData → Type 0
-IsShort f = (unsigned_abs f.num < 10 ^ 36) × (pos 1 ≤ℤ f.den) × (unsigned_abs f.den < 10 ^ 36)
+IsShort f = (unsigned_abs f.num < short_end) × (pos 1 ≤ℤ f.den) × (unsigned_abs f.den < short_end)
 
 pub record CertificateFits (g : GameData) (k : CertificateData) : Type 0 where
   pub some_node : 1 ≤ length k.nodes
@@ -44,7 +52,7 @@ pub record CertificateFits (g : GameData) (k : CertificateData) : Type 0 where
   pub points : AllByRecursion (PointFits g (length k.points)) k.points
   pub start_node : k.start_node < length k.nodes
   pub start_point : k.start_point < length k.points
-  pub gap : IsWithin (pos 0) (pos (2 ^ 40)) k.gap.num × IsWithin (pos 1) (pos (2 ^ 20)) k.gap.den
+  pub gap : IsWithin (pos 0) (pos most_gap) k.gap.num × IsWithin (pos 1) (pos most_gap_under) k.gap.den
   pub short : IsShort k.lower × IsShort k.upper × IsShort k.tail
 
 -- the total of the first belief

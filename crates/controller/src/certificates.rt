@@ -1,4 +1,6 @@
-ghost use Rattle.controller.specs.Certificates.{CertificateFits, IsShort};
+//! Certificates, and whether one fits a game.
+
+ghost use Rattle.controller.specs.Certificates.{CertificateFits, IsShort, most_gap, most_gap_under};
 ghost use Rattle.controller.specs.Data.{certificate_data, fraction_data};
 ghost use Rattle.game_model.specs.Game.{IsWithin};
 ghost use Rattle.std.specs.Bool.{IsTrue};
@@ -77,7 +79,7 @@ impl Certificate {
 
 /// Whether a gap is within its limits.
 fn is_gap(gap: &Fraction) -> bool
-    ensures { IsTrue result ↔ (IsWithin (pos 0) (pos (2 ^ 40)) gap.now.num × IsWithin (pos 1) (pos (2 ^ 20)) gap.now.den) }
+    ensures { IsTrue result ↔ (IsWithin (pos 0) (pos most_gap) gap.now.num × IsWithin (pos 1) (pos most_gap_under) gap.now.den) }
 {
     0 <= gap.num && gap.num <= MOST_GAP && 1 <= gap.den && gap.den <= MOST_GAP_UNDER
 }

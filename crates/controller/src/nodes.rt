@@ -1,3 +1,5 @@
+//! Whether the nodes of a set fit a game.
+
 ghost use Rattle.alpha_set.specs.Members.{node_data};
 ghost use Rattle.alpha_set.specs.Nodes.{IsMix, NodeFits};
 ghost use Rattle.game_model.specs.Branches.{branch_of, branches_at, mix_total};

@@ -1,3 +1,5 @@
+//! Whether the points of a set fit a game.
+
 ghost use Rattle.game_model.specs.Game.{IsWithin, span};
 ghost use Rattle.point_set.specs.Members.{point_data};
 ghost use Rattle.point_set.specs.Points.{PointFits, most_share};

@@ -1,3 +1,5 @@
+//! Worked certificates.
+
 use crate::{Certificate, Outcome};
 use alpha_set::{Node, NodeSet, Step};
 use belief::{Belief, Mixes};

@@ -1,4 +1,5 @@
 -- Bounds of what is formed on the way to a span and to seed vectors, and the limits of a shape in two parts.
+use Rattle.game_model.specs.Limits.{most_states, most_actions, most_observations, most_row_total, most_discount}
 use Rattle.std.specs.Prelude.{pos, unsigned_abs, List, length, ◌^◌, ◌*◌, ◌/◌, ◌+◌, ◌-◌, ◌<◌, ◌≤◌, ◌≡◌, ◌≤ℤ◌, ◌<ℤ◌, ℕ, ℤ}
 use Rattle.std.specs.List.{AllByRecursion}
 use Rattle.game_model.specs.Game.{GameData, IsWithin, unit, span}
@@ -14,13 +15,13 @@ span_from shape most =
 -- the limits of a shape, in two parts
 abbrev pub HasCounts : Shape → Type 0
 HasCounts shape =
-    ((1 ≤ shape.states) × (shape.states ≤ 16)) × ((1 ≤ shape.own_actions) × (shape.own_actions ≤ 6))
-    × ((1 ≤ shape.informed_actions) × (shape.informed_actions ≤ 6)) × ((1 ≤ shape.observations) × (shape.observations ≤ 8))
+    ((1 ≤ shape.states) × (shape.states ≤ most_states)) × ((1 ≤ shape.own_actions) × (shape.own_actions ≤ most_actions))
+    × ((1 ≤ shape.informed_actions) × (shape.informed_actions ≤ most_actions)) × ((1 ≤ shape.observations) × (shape.observations ≤ most_observations))
 
 abbrev pub HasFractions : Shape → Type 0
 HasFractions shape =
-    IsWithin (pos 1) (pos (2 ^ 30)) shape.row_total
-    × ((pos 0 ≤ℤ shape.discount.0) × (shape.discount.0 <ℤ shape.discount.1) × (shape.discount.1 ≤ℤ pos (2 ^ 20)))
+    IsWithin (pos 1) (pos most_row_total) shape.row_total
+    × ((pos 0 ≤ℤ shape.discount.0) × (shape.discount.0 <ℤ shape.discount.1) × (shape.discount.1 ≤ℤ pos most_discount))
 
 -- the least of the first n values of f
 pub record IsLeastOf (f : ℕ → ℤ) (n : ℕ) (x : ℤ) : Type 0 where

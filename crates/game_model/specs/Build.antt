@@ -79,6 +79,6 @@ pub record IsBuilder (g : GameData) (filled : ℤ) : Type 0 where
   pub sum : filled ≡ row_sum (last_row g)
 
 -- what the fields of a game keep: the last one is its span
-pub record IsHeld (g : GameData) (width : ℤ) : Type 0 where
+pub record IsHeld (g : GameData) (kept : ℤ) : Type 0 where
   pub game : IsGame g
-  pub spans : width ≡ pos (span g)
+  pub spans : kept ≡ pos (span g)

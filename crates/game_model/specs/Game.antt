@@ -1,4 +1,5 @@
 -- A game as what clauses see of it: its shape, first belief, rewards and rows; its limits; and its numbers.
+use Rattle.game_model.specs.Limits.{most_states, most_actions, most_observations, most_row_total, most_discount, most_reward, most_width, most_belief, most_mass}
 use Rattle.std.specs.Prelude.{cond, sum_by, fold, max, pos, neg_ℤ, unsigned_abs, List, [], ◌∷◌, length, ◌&&◌, ◌⊎◌, ◌*◌, ◌/◌, ◌^◌, ◌+◌, ◌-◌, ◌<◌, ◌≤◌, ◌≡◌, ◌==◌, ◌*ℤ◌, ◌≤ℤ◌, ◌<ℤ◌, ℕ, ℤ, slice_index_or}
 use Rattle.std.specs.Int.{◌∣◌}
 use Rattle.std.specs.List.{AllByRecursion}
@@ -23,28 +24,28 @@ IsWithin low high x = (low ≤ℤ x) × (x ≤ℤ high)
 
 -- the limits of a shape
 pub record IsShape (shape : Shape) : Type 0 where
-  pub states : (1 ≤ shape.states) × (shape.states ≤ 16)
-  pub own_actions : (1 ≤ shape.own_actions) × (shape.own_actions ≤ 6)
-  pub informed_actions : (1 ≤ shape.informed_actions) × (shape.informed_actions ≤ 6)
-  pub observations : (1 ≤ shape.observations) × (shape.observations ≤ 8)
-  pub row_total : IsWithin (pos 1) (pos (2 ^ 30)) shape.row_total
-  pub discount : (pos 0 ≤ℤ shape.discount.0) × (shape.discount.0 <ℤ shape.discount.1) × (shape.discount.1 ≤ℤ pos (2 ^ 20))
+  pub states : (1 ≤ shape.states) × (shape.states ≤ most_states)
+  pub own_actions : (1 ≤ shape.own_actions) × (shape.own_actions ≤ most_actions)
+  pub informed_actions : (1 ≤ shape.informed_actions) × (shape.informed_actions ≤ most_actions)
+  pub observations : (1 ≤ shape.observations) × (shape.observations ≤ most_observations)
+  pub row_total : IsWithin (pos 1) (pos most_row_total) shape.row_total
+  pub discount : (pos 0 ≤ℤ shape.discount.0) × (shape.discount.0 <ℤ shape.discount.1) × (shape.discount.1 ≤ℤ pos most_discount)
 
--- weights of a belief over so many states, whose total is 1 to 2^20
+-- weights of a belief over so many states, none negative, with a total of at least 1
 pub record IsBelief (states : ℕ) (weights : List ℤ) : Type 0 where
   pub long : length weights ≡ states
-  pub each : AllByRecursion (IsWithin (pos 0) (pos (2 ^ 20))) weights
-  pub sums : IsWithin (pos 1) (pos (2 ^ 20)) (sum_of weights)
+  pub each : AllByRecursion (IsWithin (pos 0) (pos most_belief)) weights
+  pub sums : IsWithin (pos 1) (pos most_belief) (sum_of weights)
 
 -- nothing but 1 divides all of them
 abbrev pub AreCoprime : List ℤ → Type 0
 AreCoprime numbers = (d : ℕ) → AllByRecursion (λ x. d ∣ unsigned_abs x) numbers → d ≡ 1
 
--- a mass over the states of a game: none of it negative, and in all at most 2^36 times the row total
+-- a mass over the states of a game: none of it negative, and not too much for the row total
 pub record IsMass (g : GameData) (mass : List ℤ) : Type 0 where
   pub long : length mass ≡ g.shape.states
   pub each : AllByRecursion (λ x. pos 0 ≤ℤ x) mass
-  pub most : sum_of mass ≤ℤ (pos (2 ^ 36) *ℤ g.shape.row_total)
+  pub most : sum_of mass ≤ℤ (pos most_mass *ℤ g.shape.row_total)
 
 -- landings rise strictly by observation and next state
 abbrev pub IsBefore : Landing → Landing → Type 0
@@ -76,12 +77,12 @@ pub record IsRow (shape : Shape) (row : List Landing) : Type 0 where
   pub each : AllByRecursion (IsLanding shape) row
   pub sums : row_sum row ≡ shape.row_total
 
--- the limit of a reward, and the width rule: D * Q * Q * max(1, |reward|) <= 2^72
+-- the limit of a reward, and the width rule: D * Q * Q * max(1, |reward|) is at most 2^72
 abbrev pub IsRewardInRange : ℤ → Type 0
-IsRewardInRange reward = IsWithin (neg_ℤ (pos (2 ^ 30))) (pos (2 ^ 30)) reward
+IsRewardInRange reward = IsWithin (neg_ℤ (pos most_reward)) (pos most_reward) reward
 
 abbrev pub IsNarrow : Shape → ℤ → Type 0
-IsNarrow shape reward = (shape.row_total *ℤ shape.discount.1 *ℤ shape.discount.1 *ℤ pos (max 1 (unsigned_abs reward))) ≤ℤ pos (2 ^ 72)
+IsNarrow shape reward = (shape.row_total *ℤ shape.discount.1 *ℤ shape.discount.1 *ℤ pos (max 1 (unsigned_abs reward))) ≤ℤ pos most_width
 
 -- how many triples (s, a, c) there are, and the place of one in rising order
 abbrev pub triples : Shape → ℕ

@@ -2,6 +2,7 @@ pub mod Numbers
 pub mod Plan
 pub mod Play
 pub mod Laws
+pub mod Limits
 pub mod Game
 pub mod Seeds
 pub mod Branches

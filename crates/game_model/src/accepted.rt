@@ -1,3 +1,6 @@
+//! Accepted games: their readers, and what stages are worth in them.
+
+ghost use Rattle.game_model.specs.Limits.{most_states, most_reward, most_belief};
 ghost use Rattle.game_model.specs.Build.{data_of};
 ghost use Rattle.game_model.specs.Bounds.{span_from};
 ghost use Rattle.game_model.specs.Game.{IsGame, IsRewardInRange, IsShape, IsWithin, first_at, numbers, reward_at, row_at, span, triple};
@@ -18,7 +21,7 @@ pub struct Game {
     shape: Shape,
     first: Vec<i128>,
     entries: Vec<Entry>,
-    width: i128,
+    span: i128,
 }
 
 impl Model for Game {
@@ -29,7 +32,7 @@ impl Model for Game {
 
     ghost view = { λ g. data_of g.shape g.first.items g.entries.items };
 
-    ghost invariant = { λ g. IsHeld (data_of g.shape g.first.items g.entries.items) g.width };
+    ghost invariant = { λ g. IsHeld (data_of g.shape g.first.items g.entries.items) g.span };
 }
 
 impl Game {
@@ -38,12 +41,12 @@ impl Game {
         requires { IsGame (data_of shape first.items entries.items) }
         ensures { result ≡ data_of shape first.items entries.items }
     {
-        let width = span_of(&shape, greatest_reward(&entries));
+        let span = span_of(&shape, greatest_reward(&entries));
         Game {
             shape,
             first,
             entries,
-            width,
+            span,
         }
     }
 
@@ -137,7 +140,7 @@ impl Game {
     pub fn span(&self) -> i128
         ensures { result ≡ pos (span self.now) }
     {
-        self.width
+        self.span
     }
 
     /// The place of a triple in rising order.
@@ -158,14 +161,14 @@ pub fn law_game(game: &Game)
     ensures accepted { IsGame game.now }
     ensures keeps_span { KeepsSpan (numbers game.now) (span game.now) }
 {
-    let _width = game.width;
+    let _span = game.span;
 }
 
 /// The sum of a vector's entries by weights.
 fn weighted(weights: &[i128], vector: &[i128]) -> i128
     requires same { length weights.now ≡ length vector.now }
-    requires few { length weights.now ≤ 16 }
-    requires weights { AllByRecursion (IsWithin (pos 0) (pos (2 ^ 20))) weights.now }
+    requires few { length weights.now ≤ most_states }
+    requires weights { AllByRecursion (IsWithin (pos 0) (pos most_belief)) weights.now }
     requires entries { AllByRecursion (λ x. unsigned_abs x ≤ 2 ^ 70) vector.now }
     ensures { result ≡ total (λ s. slice_index_or weights.now s (pos 0) *ℤ slice_index_or vector.now s (pos 0)) (below (length weights.now)) }
 {
@@ -180,7 +183,7 @@ fn weighted(weights: &[i128], vector: &[i128]) -> i128
 fn span_of(shape: &Shape, most: i128) -> i128
     requires shape { IsShape shape.now }
     requires low { pos 0 ≤ℤ most }
-    requires high { most ≤ℤ pos (2 ^ 30) }
+    requires high { most ≤ℤ pos most_reward }
     ensures { result ≡ pos (span_from shape.now (unsigned_abs most)) }
 {
     let (over, under) = shape.discount;
@@ -190,7 +193,7 @@ fn span_of(shape: &Shape, most: i128) -> i128
 /// The greatest magnitude of a reward.
 fn greatest_reward(entries: &[Entry]) -> i128
     requires { AllByRecursion (λ e. IsRewardInRange e.reward) entries.now }
-    ensures bounded { result ≤ℤ pos (2 ^ 30) }
+    ensures bounded { result ≤ℤ pos most_reward }
     ensures greatest { result ≡ pos (fold (λ most e. max most (unsigned_abs e.reward)) 0 entries.now) }
 {
     let mut most: i128 = 0;

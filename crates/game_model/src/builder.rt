@@ -1,3 +1,5 @@
+//! The builder of games, which takes rewards and rows one by one and refuses what breaks a limit.
+
 ghost use Rattle.game_model.specs.Build.{HasRoom, HasWeightLeft, IsBegun, IsGameFront, IsLastRowFull, IsMultiple, IsNext, landing_of, last_row, with_landing, with_step};
 ghost use Rattle.game_model.specs.Game.{IsBelief, IsLanding, IsNarrow, IsRewardInRange, IsShape, row_sum, triples};
 ghost use Rattle.std.specs.Bool.{IsTrue};

@@ -1,3 +1,5 @@
+//! Laws of plans, plays and pay, and of seed vectors, as functions that do nothing.
+
 ghost use Rattle.game_model.specs.Laws.{AlwaysEarns, AlwaysEarnsFamily, AlwaysIsPlan, PayByFirstSteps, PlaysAreListed, PlaysAreOnce, WeightsOfPlays};
 ghost use Rattle.game_model.specs.Seeds.{SeedsAreOne, SeedsEarn, SeedsStand};
 

@@ -1,3 +1,6 @@
+//! Whether a shape, a first belief, a reward and a row keep the limits of a game.
+
+ghost use Rattle.game_model.specs.Limits.{most_states, most_belief};
 ghost use Rattle.game_model.specs.Build.{IsMultiple, IsNext};
 ghost use Rattle.game_model.specs.Bounds.{HasCounts, HasFractions};
 ghost use Rattle.game_model.specs.Game.{AreCoprime, IsBelief, IsLanding, IsNarrow, IsRewardInRange, IsShape, IsWithin, triples};
@@ -50,7 +53,7 @@ fn is_count(count: u32, most: u32) -> bool
 
 /// Whether each weight of a belief is within its limit.
 fn are_weights(weights: &[i128]) -> bool
-    ensures { IsTrue result ↔ AllByRecursion (IsWithin (pos 0) (pos (2 ^ 20))) weights.now }
+    ensures { IsTrue result ↔ AllByRecursion (IsWithin (pos 0) (pos most_belief)) weights.now }
 {
     weights
         .iter()
@@ -60,7 +63,7 @@ fn are_weights(weights: &[i128]) -> bool
 /// Whether these are weights of a belief over so many states: each at most 2^20, and so is their total, which is
 /// not zero.
 pub fn is_belief(states: u32, weights: &[i128]) -> bool
-    requires { states ≤ 16 }
+    requires { states ≤ most_states }
     ensures { IsTrue result ↔ IsBelief states weights.now }
 {
     if weights.len() != states as usize || !are_weights(weights) {
@@ -134,7 +137,7 @@ pub fn coprime(alloc: Global, weights: &[i128]) -> Result<Vec<i128>, AllocError>
 
 /// Each weight of a belief over a divisor.
 fn quotients(alloc: Global, weights: &[i128], divisor: i128) -> Result<Vec<i128>, AllocError>
-    requires each { AllByRecursion (IsWithin (pos 0) (pos (2 ^ 20))) weights.now }
+    requires each { AllByRecursion (IsWithin (pos 0) (pos most_belief)) weights.now }
     requires positive { pos 0 <ℤ divisor }
     ensures { IfOk result (λ kept. kept.items ≡ map (λ x. int_div x divisor) weights.now) }
 {

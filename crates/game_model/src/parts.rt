@@ -1,3 +1,5 @@
+//! The limits of games, and the parts that games are made of.
+
 /// The most states of a game, and the length of every fixed array over states.
 pub const MOST_STATES: usize = 16;
 

@@ -1,3 +1,6 @@
+//! Seed vectors: what always playing one action is worth at least.
+
+ghost use Rattle.game_model.specs.Limits.{most_row_total};
 ghost use Rattle.game_model.specs.Bounds.{IsBounded, IsLeastOf, IsWithinSpan, IsWorthWithin};
 ghost use Rattle.game_model.specs.Game.{numbers, row_at, span};
 ghost use Rattle.scaled_num.specs.Sums.{total};
@@ -116,7 +119,7 @@ fn rest(game: &Game, s: u32, a: u32, c: u32, old: &[i128]) -> i128
 /// The sum over a row of its weights times the entries of a vector.
 fn expected(row: &[Landing], vector: &[i128]) -> i128
     requires inside { AllByRecursion (λ l. l.to < length vector.now) row.now }
-    requires weights { sum_by (λ l. unsigned_abs l.weight) row.now ≤ 2 ^ 30 }
+    requires weights { sum_by (λ l. unsigned_abs l.weight) row.now ≤ most_row_total }
     requires entries { AllByRecursion (λ x. unsigned_abs x ≤ 2 ^ 70) vector.now }
     ensures { result ≡ total (λ l. l.weight *ℤ slice_index_or vector.now l.to (pos 0)) row.now }
 {

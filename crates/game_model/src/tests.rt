@@ -1,3 +1,5 @@
+//! Worked games.
+
 use crate::{Game, GameBuilder, GameFault, Shape};
 use std::alloc::Global;
 

@@ -220,14 +220,14 @@ items-most points mass left items beliefs none rest h = each-by-place (λ (item 
     let inside : item.0 < length points = each-at (λ (x : ℕ × ℤ). x.0 < length points) (0, pos 0) items i h.inside l in
     let some : pos 1 ≤ℤ item.1 = each-at (λ (x : ℕ × ℤ). pos 1 ≤ℤ x.1) (0, pos 0) items i h.positive l in
     let belief = belief-at (length mass) points item.0 beliefs inside in
-    let place = has-weight (point_at points item.0).belief (parts-none-negative (length mass) (point_at points item.0).belief belief) belief.sums.0 in
-    let s : ℕ = place.0 in
-    let here : s < length mass = subst (λ (n : ℕ). s < n) belief.long place.1 in
+    let index = has-weight (point_at points item.0).belief (parts-none-negative (length mass) (point_at points item.0).belief belief) belief.sums.0 in
+    let s : ℕ = index.0 in
+    let here : s < length mass = subst (λ (n : ℕ). s < n) belief.long index.1 in
     let f : ℕ × ℤ → ℤ = λ x. x.1 *ℤ at (point_at points x.0).belief s in
     let each : AllByRecursion (λ x. pos 0 ≤ℤ f x) items = each-by-place (λ (x : ℕ × ℤ). pos 0 ≤ℤ f x) (0, pos 0) items (λ j m.
     term (get_or items j (0, pos 0)) s here (each-at (λ (x : ℕ × ℤ). x.0 < length points) (0, pos 0) items j h.inside m) (each-at (λ (x : ℕ × ℤ). pos 1 ≤ℤ x.1) (0, pos 0) items j h.positive m)) in
     chain item.1 (f item) (total f items) (left s) (at mass s) (sum_of mass)
-    (at-least item.1 (at (point_at points item.0).belief s) (low item.1 some) place.2) (one-of f (0, pos 0) items i each l) (rest s here) (h.made s here)
+    (at-least item.1 (at (point_at points item.0).belief s) (low item.1 some) index.2) (one-of f (0, pos 0) items i each l) (rest s here) (h.made s here)
     (at_le_sum mass s (All-from_recursion (λ x. pos 0 ≤ℤ x) mass none) here))
   where
     low : (a : ℤ) → pos 1 ≤ℤ a → pos 0 ≤ℤ a

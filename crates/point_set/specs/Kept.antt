@@ -1,4 +1,5 @@
 -- The current corners that a set keeps by state, and the gaps by point.
+use Rattle.game_model.specs.Limits.{most_states}
 use Rattle.std.specs.Prelude.{ℕ, List, length, ◌≡◌, ◌<◌, ◌≤◌, ◌^◌, ◌⊎◌, ◌<ℤ◌, ◌-ℤ◌, ℤ, FitsSigned, slice_index_or}
 use Rattle.std.specs.Int.{w128}
 use Rattle.std.specs.List.{AllByRecursion}
@@ -30,12 +31,12 @@ IsAbove points k value = (k ≡ most_points) ⊎ (value <ℤ (point_at points k)
 abbrev pub IsNumber : List PointData → ℕ → Type 0
 IsNumber points k = (k < length points) ⊎ (k ≡ most_points)
 
--- at most so many points, each with at most 16 parts, and a number for each of 16 states
+-- at most so many points, each with a part for at most the most states, and a number for each of these
 pub record AreKept (points : List PointData) (corners : List ℕ) : Type 0 where
   pub few : length points ≤ most_points
-  pub narrow : AllByRecursion (λ (point : PointData). length point.belief ≤ 16) points
-  pub all : length corners ≡ 16
-  pub numbers : (s : ℕ) → s < 16 → IsCornerNumber points s (slice_index_or corners s 0)
+  pub narrow : AllByRecursion (λ (point : PointData). length point.belief ≤ most_states) points
+  pub all : length corners ≡ most_states
+  pub numbers : (s : ℕ) → s < most_states → IsCornerNumber points s (slice_index_or corners s 0)
 
 -- these are the values of the points of these numbers; the mark for none counts 0
 abbrev pub AreValuesOf : List PointData → List ℕ → List ℤ → Type 0

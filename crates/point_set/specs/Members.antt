@@ -1,4 +1,5 @@
 -- Points and shares of the program as the data that the rules speak of.
+use Rattle.game_model.specs.Limits.{most_members}
 use Rattle.std.specs.Prelude.{ℕ, ℤ, pos, Bool, List, length, map, filter, sum_by, unsigned_abs, ◌*◌, ◌*ℤ◌, ◌<◌, ◌==◌, ◌&&◌}
 use Rattle.std.specs.List.{AllByRecursion}
 use Rattle.scaled_num.specs.Sums.{below, total}
@@ -24,7 +25,7 @@ data_of points = map point_data points
 
 -- the most points of a set
 abbrev pub most_points : ℕ
-most_points = 1024
+most_points = most_members
 
 -- a point and all points that its shares may name fit the game
 pub record IsMember (g : GameData) (points : List PointParts) (point : PointParts) : Type 0 where

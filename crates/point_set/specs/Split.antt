@@ -1,16 +1,25 @@
 -- The split of a mass over wanted points and the corners.
-use Rattle.std.specs.Prelude.{ℕ, ℤ, pos, Bool, List, [], ◌∷◌, cond, count_by, filter, length, map, not, ◌≡◌, ◌<◌, ◌≤◌, ◌^◌, ◌==◌, ◌+ℤ◌, ◌-ℤ◌, ◌*ℤ◌, ◌≤ℤ◌, ltb}
+use Rattle.std.specs.Prelude.{ℕ, ℤ, pos, Bool, List, [], ◌∷◌, cond, count_by, filter, length, map, not, ◌≡◌, ◌<◌, ◌≤◌, ◌^◌, ◌==◌, ◌+◌, ◌+ℤ◌, ◌-ℤ◌, ◌*ℤ◌, ◌≤ℤ◌, ltb}
 use Rattle.std.specs.List.{AllByRecursion}
 use Rattle.scaled_num.specs.Share.{IsShared, at}
 use Rattle.scaled_num.specs.Sums.{below, sum_of, total}
 use Rattle.game_model.specs.Game.{IsWithin}
+use Rattle.game_model.specs.Limits.{most_states}
 use Rattle.point_set.specs.Corners.{point_at}
 use Rattle.point_set.specs.Points.{PointData}
 use Rattle.point_set.specs.Sawtooth.{AreCorners, FitsTimes}
 
--- the most items of a split: a corner for each of 16 states, and eight other points
+-- the most wanted points that are no current corner
+abbrev pub most_others : ℕ
+most_others = 8
+
+-- the greatest weight of a wanted point
+abbrev pub most_wish : ℕ
+most_wish = 2 ^ 30
+
+-- the most items of a split: a corner for each state, and the others
 abbrev pub most_items : ℕ
-most_items = 24
+most_items = most_states + most_others
 
 -- the numbers of pairs rise strictly
 abbrev pub AreRisingPairs : List (ℕ × ℤ) → Type 0
@@ -26,15 +35,15 @@ weight_of pairs k = total (λ pair. cond (pair.0 == k) pair.1 (pos 0)) pairs
 abbrev pub is_corner : (ℕ → ℕ) → ℕ → ℕ → Bool
 is_corner corners states k = ltb 0 (count_by (λ s. corners s == k) (below states))
 
--- a list of wanted points: at least one, with weights of 0 to 2^30, and at most eight that are no current corner
+-- a list of wanted points: at least one, and few that are no current corner
 pub record IsWanted (points : List PointData) (states : ℕ) (wanted : List (ℕ × ℤ)) : Type 0 where
   pub some : 1 ≤ length wanted
   pub rising : AreRisingPairs wanted
   pub inside : AllByRecursion (λ want. want.0 < length points) wanted
-  pub weights : AllByRecursion (λ want. IsWithin (pos 0) (pos (2 ^ 30)) want.1) wanted
+  pub weights : AllByRecursion (λ want. IsWithin (pos 0) (pos most_wish) want.1) wanted
   pub corners : ℕ → ℕ
   pub current : AreCorners points states corners
-  pub few : length (filter (λ want. not (is_corner corners states want.0)) wanted) ≤ 8
+  pub few : length (filter (λ want. not (is_corner corners states want.0)) wanted) ≤ most_others
 
 -- the greatest whole number of times that a belief fits into its share of the total and into what remains of a mass
 pub record TakesMost (mass belief : List ℤ) (share times : ℤ) : Type 0 where

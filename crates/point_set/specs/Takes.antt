@@ -48,11 +48,11 @@ pub record IsLesser (times share whole result : ℤ) : Type 0 where
   pub allowed : (result *ℤ whole) ≤ℤ share
   pub most : (more : ℤ) → more ≤ℤ times → (more *ℤ whole) ≤ℤ share → more ≤ℤ result
 
--- smaller numbers stand before the place, and none from it on
-pub record IsPlace (k : ℕ) (items : List (ℕ × ℤ)) (place : ℕ) : Type 0 where
-  pub upto : place ≤ length items
-  pub below : (j : ℕ) → j < place → (slice_index_or items j (0, pos 0)).0 < k
-  pub above : place < length items → k ≤ (slice_index_or items place (0, pos 0)).0
+-- smaller numbers stand before the index, and none from it on
+pub record IsIndex (k : ℕ) (items : List (ℕ × ℤ)) (index : ℕ) : Type 0 where
+  pub upto : index ≤ length items
+  pub below : (j : ℕ) → j < index → (slice_index_or items j (0, pos 0)).0 < k
+  pub above : index < length items → k ≤ (slice_index_or items index (0, pos 0)).0
 
 -- items with what remains of a mass in so many first states, under the numbers of their current corners
 abbrev pub with_rests : (ℕ → ℕ) → List ℤ → List (ℕ × ℤ) → ℕ → List (ℕ × ℤ)

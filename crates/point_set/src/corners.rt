@@ -1,3 +1,6 @@
+//! The current corners that a set keeps by state.
+
+ghost use Rattle.game_model.specs.Limits.{most_states};
 ghost use Rattle.point_set.specs.Kept.{AreKept, IsAbove, IsNumber, IsSure};
 ghost use Rattle.point_set.specs.Members.{data_of, most_points, point_data};
 ghost use Rattle.std.specs.Bool.{IsTrue};
@@ -32,7 +35,7 @@ pub fn corners_with(
 
 /// The state of which a belief is sure.
 fn sure_state(belief: &Belief) -> Option<usize>
-    ensures few { length belief.now ≤ 16 }
+    ensures few { length belief.now ≤ most_states }
     ensures sure { IfSome result (IsSure belief.now) }
     ensures unsure { IsNone result → (s : ℕ) → IsSure belief.now s → ⊥ }
 {

@@ -1,3 +1,6 @@
+//! The gaps that a set keeps by point: its value less what its belief costs at the corners.
+
+ghost use Rattle.game_model.specs.Limits.{most_states};
 ghost use Rattle.point_set.specs.Bounds.{cost_at, cost_size};
 ghost use Rattle.point_set.specs.Corners.{point_at};
 ghost use Rattle.point_set.specs.Kept.{AreGaps, AreGapsOf, AreKept, AreValuesOf, IsGap};
@@ -33,7 +36,7 @@ pub fn renew_gaps(
 
 /// The values of the points of these numbers, in order; the mark for none counts 0.
 pub fn corner_values(points: &[Point], corners: &[u32]) -> [i128; MOST_STATES]
-    requires few { length corners.now ≤ 16 }
+    requires few { length corners.now ≤ most_states }
     ensures { AreValuesOf (data_of points.now) corners.now result }
 {
     let mut values = [0; MOST_STATES];
@@ -55,7 +58,7 @@ fn value_of(points: &[Point], number: u32) -> i128
 
 /// Writes the gaps of the points from a number on.
 fn write_gaps(points: &[Point], values: &[i128; MOST_STATES], first: usize, gaps: &mut [i128])
-    requires states { length values.now ≡ 16 }
+    requires states { length values.now ≡ most_states }
     requires count { length gaps.old ≡ length points.now }
     ensures count { length gaps.new ≡ length gaps.old }
     ensures before { (i : ℕ) → i < first → at gaps.new i ≡ at gaps.old i }
@@ -68,7 +71,7 @@ fn write_gaps(points: &[Point], values: &[i128; MOST_STATES], first: usize, gaps
 
 /// The gap of a point at the values of the corners.
 fn gap_of(point: &Point, values: &[i128; MOST_STATES]) -> i128
-    requires states { length values.now ≡ 16 }
+    requires states { length values.now ≡ most_states }
     ensures { IsGap values.now (point_data point.now) result }
 {
     point

@@ -1,3 +1,5 @@
+//! The sawtooth bound of a mass.
+
 ghost use Rattle.point_set.specs.Bounds.{HasRoom, IsLessened, cost_at, cost_size};
 ghost use Rattle.point_set.specs.Kept.{IsKept};
 ghost use Rattle.point_set.specs.Members.{data_of};

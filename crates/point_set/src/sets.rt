@@ -1,5 +1,6 @@
 //! The set of a splitting strategy's points.
 
+ghost use Rattle.game_model.specs.Limits.{most_states};
 ghost use Rattle.point_set.specs.Corners.{HasCorner, IsCurrentCorner};
 ghost use Rattle.point_set.specs.Faults.{FailsFirst, SplitsHold};
 ghost use Rattle.point_set.specs.Members.{most_points, point_data};
@@ -140,7 +141,7 @@ impl PointSet {
 
     /// The current corners of the first states, by state.
     fn first_corners(&self, states: usize) -> &[u32]
-        requires few { states ≤ 16 }
+        requires few { states ≤ most_states }
         requires corners { (s : ℕ) → s < states → HasCorner self.now.members s }
         ensures count { length result.now ≡ states }
         ensures current { AreCorners self.now.members states (λ s. slice_index_or result.now s 0) }

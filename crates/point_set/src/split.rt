@@ -1,7 +1,11 @@
+//! Splits of a mass into beliefs of points.
+
+ghost use Rattle.point_set.specs.Points.{most_share};
+ghost use Rattle.game_model.specs.Limits.{most_states};
 ghost use Rattle.point_set.specs.Members.{data_of};
 ghost use Rattle.point_set.specs.Sawtooth.{AreCorners, AreMeasured};
-ghost use Rattle.point_set.specs.Split.{AreRisingPairs, IsSplit, IsWanted, MakesUp, most_items};
-ghost use Rattle.point_set.specs.Takes.{AreBeliefs, AreItems, AreTaken, IsPlace, IsSmall, inserted, others, with_rests};
+ghost use Rattle.point_set.specs.Split.{AreRisingPairs, IsSplit, IsWanted, MakesUp, most_items, most_others};
+ghost use Rattle.point_set.specs.Takes.{AreBeliefs, AreItems, AreTaken, IsIndex, IsSmall, inserted, others, with_rests};
 ghost use Rattle.scaled_num.specs.Share.{at};
 ghost use Rattle.game_model.specs.Game.{IsWithin};
 ghost use Rattle.scaled_num.specs.Sums.{sum_of};
@@ -70,21 +74,21 @@ impl Split {
         requires room { length (inserted number weight self.old) ≤ most_items }
         ensures { self.new ≡ inserted number weight self.old }
     {
-        let place = place_of(&self.items[..self.count], number);
-        if place < self.count && self.items[place].0 == number {
-            self.items[place].1 += weight;
+        let index = index_of(&self.items[..self.count], number);
+        if index < self.count && self.items[index].0 == number {
+            self.items[index].1 += weight;
             return;
         }
-        self.items.copy_within(place..self.count, place + 1);
-        self.items[place] = (number, weight);
+        self.items.copy_within(index..self.count, index + 1);
+        self.items[index] = (number, weight);
         self.count += 1;
     }
 }
 
-/// The place of a number among items: how many have a smaller one.
-fn place_of(items: &[(u32, i128)], number: u32) -> usize
+/// The index of a number among items: how many have a smaller one.
+fn index_of(items: &[(u32, i128)], number: u32) -> usize
     requires { AreRisingPairs items.now }
-    ensures { IsPlace number items.now result }
+    ensures { IsIndex number items.now result }
 {
     items.partition_point(|item| item.0 < number)
 }
@@ -127,11 +131,11 @@ fn take_wanted(
 )
     requires beliefs { AreBeliefs (length rest.old) (data_of points.now) }
     requires wanted { IsWanted (data_of points.now) (length rest.old) wanted.now }
-    requires few { length rest.old ≤ 16 }
-    requires shares { AllByRecursion (IsWithin (pos 0) (pos (2 ^ 66))) shares.now }
+    requires few { length rest.old ≤ most_states }
+    requires shares { AllByRecursion (IsWithin (pos 0) most_share) shares.now }
     requires places { length shares.now ≡ length wanted.now }
     requires mass { AllByRecursion (λ x. pos 0 ≤ℤ x) rest.old }
-    requires sum { sum_of rest.old ≤ℤ pos (2 ^ 66) }
+    requires sum { sum_of rest.old ≤ℤ most_share }
     requires empty { out.old ≡ [] }
     ensures taken { AreTaken (data_of points.now) (map (λ want. want.0) wanted.now) shares.now rest.old rest.new out.new }
     ensures items { AreItems (data_of points.now) rest.old (at rest.new) out.new }
@@ -140,8 +144,8 @@ fn take_wanted(
     ensures sum { sum_of rest.new ≤ℤ sum_of rest.old }
     ensures others { (corners : ℕ → ℕ) → others corners (length rest.old) out.new ≤ others corners (length rest.old) wanted.now }
 {
-    for (place, want) in wanted.iter().enumerate() {
-        let times = take(&points[want.0 as usize].belief, shares[place], rest);
+    for (index, want) in wanted.iter().enumerate() {
+        let times = take(&points[want.0 as usize].belief, shares[index], rest);
         if times > 0 {
             out.add(want.0, times);
         }
@@ -150,12 +154,12 @@ fn take_wanted(
 
 /// Adds what remains of a mass in each state to the item of its current corner.
 fn give_corners(corners: &[u32], rest: &[i128], out: &mut Split)
-    requires states { length corners.now ≤ 16 }
+    requires states { length corners.now ≤ most_states }
     requires places { length rest.now ≡ length corners.now }
     requires rising { AreRisingPairs out.old }
-    requires few { others (λ s. slice_index_or corners.now s 0) (length corners.now) out.old ≤ 8 }
-    requires items { AllByRecursion (λ item. IsWithin (pos 0) (pos (2 ^ 66)) item.1) out.old }
-    requires rest { AllByRecursion (IsWithin (pos 0) (pos (2 ^ 66))) rest.now }
+    requires few { others (λ s. slice_index_or corners.now s 0) (length corners.now) out.old ≤ most_others }
+    requires items { AllByRecursion (λ item. IsWithin (pos 0) most_share item.1) out.old }
+    requires rest { AllByRecursion (IsWithin (pos 0) most_share) rest.now }
     ensures { out.new ≡ with_rests (λ s. slice_index_or corners.now s 0) rest.now out.old (length corners.now) }
 {
     for (s, number) in corners.iter().enumerate() {

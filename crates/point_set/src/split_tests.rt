@@ -1,3 +1,5 @@
+//! Worked splits.
+
 ghost use Rattle.belief.specs.Beliefs.{corner_of};
 ghost use Rattle.game_model.specs.Game.{AreCoprime, IsBelief, span};
 ghost use Rattle.point_set.specs.Members.{most_points, point_data};

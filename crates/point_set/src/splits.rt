@@ -1,3 +1,5 @@
+//! The first place at which the split rule of a point fails.
+
 ghost use Rattle.game_model.specs.Branches.{AreRising, branch_of};
 ghost use Rattle.game_model.specs.Game.{IsWithin, numbers};
 ghost use Rattle.point_set.specs.Faults.{FailsFirstAfter, FailsFirstAt, SplitFailsFirst, SplitsHold};
@@ -75,7 +77,7 @@ pub fn shares_after(splits: &[Branch], a: u32, o: u32) -> &[Branch]
 /// beliefs.
 fn shared(game: &Game, points: &[Point], shares: &[Branch], s: u32) -> i128
     requires named { AllByRecursion (IsNamed points.now) shares.now }
-    requires few { length shares.now ≤ 1024 }
+    requires few { length shares.now ≤ most_points }
     requires weights { AllByRecursion (λ share. IsWithin (pos 1) most_share share.weight) shares.now }
     requires fits { AllByRecursion (PointFits game.now most_points) (data_of points.now) }
     requires state { s < game.now.shape.states }

@@ -1,3 +1,5 @@
+//! The first place at which a point does not stand.
+
 ghost use Rattle.game_model.specs.Game.{numbers};
 ghost use Rattle.point_set.specs.Faults.{FailsFirst};
 ghost use Rattle.point_set.specs.Members.{IsMember, data_of, point_data};

@@ -1,3 +1,5 @@
+//! Worked sets of points.
+
 ghost use Rattle.game_model.specs.Game.{AreCoprime, IsBelief, IsWithin, span};
 ghost use Rattle.point_set.specs.Members.{most_points, point_data};
 ghost use Rattle.point_set.specs.Points.{PointFits, most_share};

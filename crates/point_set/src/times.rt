@@ -1,3 +1,6 @@
+//! How often a belief fits into a mass.
+
+ghost use Rattle.game_model.specs.Limits.{most_belief};
 ghost use Rattle.game_model.specs.Game.{IsBelief, IsWithin};
 ghost use Rattle.point_set.specs.Sawtooth.{FitsTimes, IsMostTimes};
 ghost use Rattle.scaled_num.specs.Share.{IsFloor, at};
@@ -59,7 +62,7 @@ pub fn first_weight(belief: &[i128]) -> usize
 fn lowered(times: i128, part: i128, weight: i128) -> i128
     requires times { IsWithin (pos 0) (pos (2 ^ 100)) times }
     requires part { pos 0 ≤ℤ part }
-    requires weight { IsWithin (pos 0) (pos (2 ^ 20)) weight }
+    requires weight { IsWithin (pos 0) (pos most_belief) weight }
     ensures low { pos 0 ≤ℤ result }
     ensures high { result ≤ℤ times }
     ensures fits { (result *ℤ weight) ≤ℤ part }

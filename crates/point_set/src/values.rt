@@ -1,3 +1,5 @@
+//! What a stage costs a point, and the first own action at which its value rule fails.
+
 ghost use Rattle.belief.specs.Beliefs.{weight_at};
 ghost use Rattle.game_model.specs.Branches.{AreRising, branch_of};
 ghost use Rattle.game_model.specs.Game.{IsBelief, numbers};

@@ -2,16 +2,16 @@ use Rattle.std.proofs.Common.{◌≡◌, ◌≤◌, ◌+◌, ◌^◌, ℕ, get_o
 use Rattle.std.specs.Prelude.{pos, unsigned_abs}
 use Rattle.std.proofs.lemmas.Int.{to_z-of_z}
 use Rattle.scaled_num.proofs.Sums.{each-at}
-use Rattle.alpha_set.specs.Members.{table_place}
+use Rattle.alpha_set.specs.Members.{table_index}
 use Rattle.alpha_set.proofs.Adding.{NextAdded, added-at, next-added}
 use Rattle.alpha_set.proofs.Totals.{abs-within}
 use Rattle.alpha_set.proofs.tables.add.Goals as goal
 
-next : (c : goal.After-table-in-loop-t-2-1) → NextAdded c.args.table.now c.args.vector.now c.loop-t.table c.place-start.result c.loop-t.t c.args.step.now.weight
+next : (c : goal.After-table-in-loop-t-2-1) → NextAdded c.args.table.now c.args.vector.now c.loop-t.table c.index-start.result c.loop-t.t c.args.step.now.weight
 next c =
-    let at : c.place-start.result + c.loop-t.t ≡ table_place c.args.step.now.a c.args.step.now.o c.loop-t.t = omega (arith, c.place-start.ensures.place) in
-    next-added c.args.table.now c.args.vector.now c.loop-t.table c.place-start.result c.loop-t.t c.args.step.now.weight c.loop-t-test.true
-    (omega (arith, c.place-start.ensures.place))
+    let at : c.index-start.result + c.loop-t.t ≡ table_index c.args.step.now.a c.args.step.now.o c.loop-t.t = omega (arith, c.index-start.ensures.index) in
+    next-added c.args.table.now c.args.vector.now c.loop-t.table c.index-start.result c.loop-t.t c.args.step.now.weight c.loop-t-test.true
+    (omega (arith, c.index-start.ensures.index))
     (subst (λ (k : ℕ). unsigned_abs (get_or c.args.table.now k (pos 0)) ≤ 2 ^ 82) (sym at) (c.requires.small c.loop-t.t c.loop-t-test.true))
     (abs-within c.args.step.now.weight 65536 c.requires.weight)
     (each-at (λ x. unsigned_abs x ≤ 2 ^ 66) (pos 0) c.args.vector.now c.loop-t.t c.requires.entries c.loop-t-test.true)
@@ -41,5 +41,5 @@ loop-t-preserved c =
 
 pub returns-clause-brought : goal.returns-clause-brought
 returns-clause-brought c =
-    let at : c.place-start.result ≡ table_place c.args.step.now.a c.args.step.now.o 0 = omega (arith, c.place-start.ensures.place) in
-    added-at c.args.step.now c.args.table.now c.args.vector.now c.loop-t.table c.place-start.result c.loop-t.t at (omega arith) c.requires.few c.requires.seen c.loop-t.invariant
+    let at : c.index-start.result ≡ table_index c.args.step.now.a c.args.step.now.o 0 = omega (arith, c.index-start.ensures.index) in
+    added-at c.args.step.now c.args.table.now c.args.vector.now c.loop-t.table c.index-start.result c.loop-t.t at (omega arith) c.requires.few c.requires.seen c.loop-t.invariant

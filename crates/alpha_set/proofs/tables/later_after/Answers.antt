@@ -29,7 +29,7 @@ overflow_mul-sum c =
     let n = next c in
     let weight_fits = n.weight_fits in
     let entry_fits = n.entry_fits in
-    simp (c.place.ensures.place, to_z-of_z) n.product_fits
+    simp (c.index.ensures.index, to_z-of_z) n.product_fits
 
 pub overflow_add-sum : goal.overflow_add-sum
 overflow_add-sum c =
@@ -37,7 +37,7 @@ overflow_add-sum c =
     let weight_fits = n.weight_fits in
     let entry_fits = n.entry_fits in
     let product_fits = n.product_fits in
-    simp (c.place.ensures.place, to_z-of_z) n.sum_fits
+    simp (c.index.ensures.index, to_z-of_z) n.sum_fits
 
 pub loop-landing-preserved : goal.loop-landing-preserved
 loop-landing-preserved c =
@@ -46,7 +46,7 @@ loop-landing-preserved c =
     let entry_fits = n.entry_fits in
     let product_fits = n.product_fits in
     let sum_fits = n.sum_fits in
-    simp (c.place.ensures.place, to_z-of_z) n.so_far
+    simp (c.index.ensures.index, to_z-of_z) n.so_far
 
 whole : (c : goal.After-loop-landing) → take c.loop-landing.landing-index c.row-row.result.now ≡ row_at c.args.game.now c.args.s c.args.a c.args.c
 whole c = take_all c.loop-landing.landing-index c.row-row.result.now (omega arith) ∙ c.row-row.ensures

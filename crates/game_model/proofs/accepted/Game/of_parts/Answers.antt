@@ -21,10 +21,10 @@ invariant_of-result c =
     let most : c.greatest_reward.result ≡ pos (greatest_reward (data_of c.args.shape c.args.first.items c.args.entries.items)) =
     c.greatest_reward.ensures.greatest ∙ ap (λ (es : List Entry). pos (fold (λ most (e : Entry). max most (unsigned_abs e.reward)) 0 es)) c.deref.ensures.value
     ∙ ap pos (sym (fold-map (λ most r. max most (unsigned_abs r)) (λ (e : Entry). e.reward) 0 c.args.entries.items)) in
-    let w_fits : FitsSigned w128 c.span_of-width.result = search rules in
+    let w_fits : FitsSigned w128 c.span_of-span.result = search rules in
     let g_fits : FitsSigned w128 c.greatest_reward.result = search rules in
-    let width : c.span_of-width.result ≡ pos (span_from c.args.shape (unsigned_abs c.greatest_reward.result)) = simp to_z-of_z at c.span_of-width.ensures in
+    let spanned : c.span_of-span.result ≡ pos (span_from c.args.shape (unsigned_abs c.greatest_reward.result)) = simp to_z-of_z at c.span_of-span.ensures in
     record {
       game = c.requires;
-      spans = simp to_z-of_z (width ∙ ap (λ (z : ℤ). pos (span_from c.args.shape (unsigned_abs z))) most);
+      spans = simp to_z-of_z (spanned ∙ ap (λ (z : ℤ). pos (span_from c.args.shape (unsigned_abs z))) most);
     }
