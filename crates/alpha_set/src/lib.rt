@@ -5,8 +5,6 @@ mod nodes;
 mod sets;
 mod stands;
 mod tables;
-#[cfg(test)]
-mod tests;
 mod worth;
 
 pub use game_model::Branch as Step;

@@ -6,7 +6,5 @@ mod nodes;
 mod points;
 mod seeds;
 mod shares;
-#[cfg(test)]
-mod tests;
 
 pub use seeds::seed;

@@ -6,8 +6,6 @@ mod divisors;
 mod masses;
 mod mixes;
 mod reduced;
-#[cfg(test)]
-mod tests;
 
 pub use beliefs::Belief;
 pub use masses::mass;

@@ -4,8 +4,6 @@
 mod bounds;
 mod checker;
 mod members;
-#[cfg(test)]
-mod tests;
 mod verdicts;
 
 pub use checker::{check, law_once};

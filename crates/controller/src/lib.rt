@@ -6,8 +6,6 @@ mod certificates;
 mod laws;
 mod nodes;
 mod points;
-#[cfg(test)]
-mod tests;
 
 pub use certificates::{Certificate, MOST_GAP, MOST_GAP_UNDER, Outcome};
 pub use laws::{law_members, law_places};

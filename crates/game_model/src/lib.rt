@@ -8,8 +8,6 @@ mod laws;
 mod limits;
 mod parts;
 mod seeds;
-#[cfg(test)]
-mod tests;
 
 pub use accepted::{Game, law_game};
 pub use branches::Branch;

@@ -9,7 +9,6 @@ pub mod CornerNumbers
 pub mod PointBounds
 pub mod GapBounds
 pub mod LeastBounds
-pub mod ThreePoints
 pub mod Items
 pub mod KeptGaps
 pub mod Counted

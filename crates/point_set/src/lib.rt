@@ -14,8 +14,6 @@ mod splits;
 mod stands;
 mod takes;
 mod teeth;
-#[cfg(test)]
-mod tests;
 mod times;
 mod values;
 

@@ -10,7 +10,7 @@ use Rattle.belief.proofs.Parts.{corner-parts}
 use Rattle.point_set.specs.Members.{most_points}
 use Rattle.point_set.specs.Points.{most_share}
 use Rattle.game_model.specs.declared.branches.Branch.{Branch as ShareParts}
-use Rattle.point_set.proofs.tests.even_point.Goals as goal
+use Rattle.worked_rows.proofs.points.even_point.Goals as goal
 
 pub returns-clause-fits : goal.returns-clause-fits
 returns-clause-fits c =

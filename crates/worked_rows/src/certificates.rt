@@ -1,6 +1,6 @@
 //! Tests of what fits: a vector above the span and a share of no point do not.
 
-use crate::{Certificate, Outcome};
+use controller::{Certificate, Outcome};
 use alpha_set::{Node, NodeSet, Step};
 use belief::{Belief, Mixes};
 use game_model::{Game, GameBuilder, GameFault, Shape};

@@ -1,6 +1,6 @@
 //! Worked games.
 
-use crate::{Game, GameBuilder, GameFault, Shape};
+use game_model::{Game, GameBuilder, GameFault, Shape};
 use std::alloc::Global;
 
 /// Matching pennies in one state, without a future.

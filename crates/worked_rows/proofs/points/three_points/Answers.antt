@@ -4,8 +4,8 @@ use Rattle.belief.proofs.Parts.{corner-parts}
 use Rattle.point_set.specs.Members.{point_data}
 use Rattle.point_set.specs.Points.{PointData}
 use Rattle.point_set.specs.Sawtooth.{AreMeasured}
-use Rattle.point_set.proofs.ThreePoints.{three-measured, two-corner}
-use Rattle.point_set.proofs.tests.three_points.Goals as goal
+use Rattle.worked_rows.proofs.ThreePoints.{three-measured, two-corner}
+use Rattle.worked_rows.proofs.points.three_points.Goals as goal
 
 pub plain_point-requires-clause-coprime : goal.plain_point-requires-clause-coprime
 plain_point-requires-clause-coprime c = subst AreCoprime (sym c.corner.ensures) (corner-parts 2 0 (omega arith) (omega arith)).coprime

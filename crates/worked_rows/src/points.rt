@@ -8,7 +8,7 @@ ghost use Rattle.std.specs.List.{AllByRecursion};
 ghost use Rattle.scaled_num.specs.Sums.{sum_of};
 ghost use Rattle.std.specs.Prelude.{IfOk, [], neg_ℤ, pos, ℕ, ◌*ℤ◌, ◌+◌, ◌<◌, ◌^◌, ◌∷◌, ◌≡◌, ◌≤◌};
 
-use crate::{Point, PointFault, PointSet, PushFault, Share, Split};
+use point_set::{Point, PointFault, PointSet, PushFault, Share, Split};
 use belief::{Belief, Mixes};
 use game_model::{Game, GameBuilder, GameFault, Shape, law_game};
 use std::alloc::{AllocError, Global};

@@ -4,8 +4,8 @@ use Rattle.belief.proofs.Parts.{corner-parts}
 use Rattle.point_set.specs.Corners.{HasCorner}
 use Rattle.point_set.specs.Members.{point_data}
 use Rattle.point_set.specs.Points.{PointData}
-use Rattle.point_set.proofs.ThreePoints.{corner-added, two-corner}
-use Rattle.point_set.proofs.tests.the_sawtooth_takes_the_even_point_twice.Goals as goal
+use Rattle.worked_rows.proofs.ThreePoints.{corner-added, two-corner}
+use Rattle.worked_rows.proofs.points.the_sawtooth_takes_the_even_point_twice.Goals as goal
 
 pub plain_point-requires-clause-coprime : goal.plain_point-requires-clause-coprime
 plain_point-requires-clause-coprime g c = subst AreCoprime (sym c.corner-3.ensures) (corner-parts 2 1 (omega arith) (omega arith)).coprime

@@ -1,6 +1,6 @@
 //! Worked beliefs, mixes and masses.
 
-use crate::{Belief, Mixes, mass, reduce};
+use belief::{Belief, Mixes, mass, reduce};
 use game_model::{Game, GameBuilder, GameFault, Shape, law_game};
 use std::alloc::Global;
 

@@ -1,4 +1,4 @@
-use Rattle.cert_check.proofs.tests.verdict_of.Goals as goal
+use Rattle.worked_rows.proofs.checks.verdict_of.Goals as goal
 
 pub check-requires : goal.check-requires
 check-requires c = c.fits.ensures.0 c.if-not-fits.false

@@ -1,6 +1,6 @@
 //! Tests of the checker: certificates that stand, and the first place of others.
 
-use crate::{Reason, Verdict, check};
+use cert_check::{Reason, Verdict, check};
 use alpha_set::{Node, NodeSet, Step};
 use belief::{Belief, Mixes};
 use controller::{Certificate, Outcome};

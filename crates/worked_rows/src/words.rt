@@ -1,5 +1,5 @@
 //! Tests of words, numbers and limits.
-use crate::{
+use text_words::{
     NumbersFault, below_limit, each_within, limited, number, numbers_after, split_line, words,
 };
 use std::test::Fail;

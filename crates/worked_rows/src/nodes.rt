@@ -6,7 +6,7 @@ ghost use Rattle.game_model.specs.Game.{IsMass, IsWithin, span};
 ghost use Rattle.std.specs.List.{AllByRecursion};
 ghost use Rattle.std.specs.Prelude.{IfOk, length, neg_ℤ, pos, ◌<◌, ◌≡◌};
 
-use crate::{Node, NodeSet, PushFault, Step};
+use alpha_set::{Node, NodeSet, PushFault, Step};
 use game_model::{Game, GameBuilder, GameFault, Shape, law_game};
 use std::alloc::{AllocError, Global};
 

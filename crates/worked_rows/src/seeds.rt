@@ -1,4 +1,4 @@
-use crate::seed;
+use backup::seed;
 use alpha_set::NodeSet;
 use game_model::{Game, GameBuilder, GameFault, Shape};
 use point_set::{PointSet, Share};

@@ -3,7 +3,7 @@ use Rattle.std.specs.List.{AllByRecursion}
 use Rattle.game_model.specs.Branches.{Branch}
 use Rattle.point_set.specs.Members.{point_data}
 use Rattle.point_set.specs.Points.{PointData, no_point}
-use Rattle.point_set.proofs.tests.fault_of.Goals as goal
+use Rattle.worked_rows.proofs.points.fault_of.Goals as goal
 
 pub stands-requires-clause-named : goal.stands-requires-clause-named
 stands-requires-clause-named c =

@@ -1,6 +1,6 @@
 ghost use Rattle.std.specs.Prelude.{pos, ◌<ℤ◌};
 
-use crate::{
+use scaled_num::{
     Fraction, ceil_div, common_divisor, decimals_down, decimals_up, floor_div, gcd, print, sum,
     take_share,
 };

@@ -1,0 +1,21 @@
+//! Worked rows of single calls of the libraries. This crate has nothing but tests, so that no other crate is proved twice.
+#![tactic(auto)]
+
+#[cfg(test)]
+mod beliefs;
+#[cfg(test)]
+mod certificates;
+#[cfg(test)]
+mod checks;
+#[cfg(test)]
+mod games;
+#[cfg(test)]
+mod nodes;
+#[cfg(test)]
+mod numbers;
+#[cfg(test)]
+mod points;
+#[cfg(test)]
+mod seeds;
+#[cfg(test)]
+mod words;
