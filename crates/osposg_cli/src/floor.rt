@@ -83,6 +83,7 @@ fn seed_product(game: &Game, action: u32) -> i128
     requires { action < game.now.shape.own_actions }
     ensures { IsSeedProduct game.now action result }
 {
+    law_game(game);
     let mut entries = [0; MOST_STATES];
     let vector = &mut entries[..game.states() as usize];
     game.steady(action, vector);
