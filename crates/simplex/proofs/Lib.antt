@@ -7,6 +7,7 @@ pub mod Divided
 pub mod Options
 pub mod Exchange
 pub mod Traded
+pub mod Short
 pub mod Lowest
 pub mod ReadAt
 pub mod Standing

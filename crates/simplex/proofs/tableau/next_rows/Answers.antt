@@ -3,7 +3,7 @@ use Rattle.std.specs.Int.{w128}
 use Rattle.std.specs.Vec.{with_items}
 use Rattle.std.proofs.lemmas.List.{get_or_read, with_items_is}
 use Rattle.simplex.specs.Program.{at, AllNarrow}
-use Rattle.simplex.specs.Elimination.{IsMade, IsMadeWide}
+use Rattle.simplex.specs.Elimination.{IsMost, IsMade, IsMadeWide}
 use Rattle.simplex.specs.Tableau.{list_at}
 use Rattle.simplex.proofs.Rows.{read_shared, read_row, hold_set}
 use Rattle.simplex.proofs.Exchange.{made_more, made_skip, wide_set, found_wide}
@@ -23,8 +23,8 @@ index-requires c =
 pub next_row-requires-clause-place : goal.next_row-requires-clause-place
 next_row-requires-clause-place c =
     let n : ℕ = c.loop-row.row in
-    let row : c.deref.result.now ≡ list_at c.args.rows.now n = read_shared c.args.rows.now n _ c.deref.result.now (omega arith) c.deref.ensures.value c.index-rows-row-then-index-ne0.is in
-    let same : length c.deref.result.now ≡ length (list_at c.args.rows.now n) = ap length row in
+    let row : c.deref-then-index-ne0.result.now ≡ list_at c.args.rows.now n = read_shared c.args.rows.now n _ c.deref-then-index-ne0.result.now (omega arith) c.deref-then-index-ne0.ensures.value c.index-rows-row-then-index-ne0.is in
+    let same : length c.deref-then-index-ne0.result.now ≡ length (list_at c.args.rows.now n) = ap length row in
     let wide : length (list_at c.args.rows.now n) ≡ length (list_at c.args.rows.now c.args.leave) = c.requires.wide n (omega arith) in
     let place = c.requires.place in
     omega arith
@@ -32,14 +32,14 @@ next_row-requires-clause-place c =
 pub next_row-requires-clause-same : goal.next_row-requires-clause-same
 next_row-requires-clause-same c =
     let n : ℕ = c.loop-row.row in
-    let row : c.deref.result.now ≡ list_at c.args.rows.now n = read_shared c.args.rows.now n _ c.deref.result.now (omega arith) c.deref.ensures.value c.index-rows-row-then-index-ne0.is in
-    let pivot : c.deref-then-index-ne0.result.now ≡ list_at c.args.rows.now c.args.leave = read_shared c.args.rows.now c.args.leave _ c.deref-then-index-ne0.result.now c.requires.leave c.deref-then-index-ne0.ensures.value c.index-rows-leave.is in
+    let row : c.deref-then-index-ne0.result.now ≡ list_at c.args.rows.now n = read_shared c.args.rows.now n _ c.deref-then-index-ne0.result.now (omega arith) c.deref-then-index-ne0.ensures.value c.index-rows-row-then-index-ne0.is in
+    let pivot : c.deref-then-index-ne0-2.result.now ≡ list_at c.args.rows.now c.args.leave = read_shared c.args.rows.now c.args.leave _ c.deref-then-index-ne0-2.result.now c.requires.leave c.deref-then-index-ne0-2.ensures.value c.index-rows-leave-then-index-ne0.is in
     ap length pivot ∙ sym (ap length row ∙ c.requires.wide n (omega arith))
 
 pub next_row-requires-clause-room : goal.next_row-requires-clause-room
 next_row-requires-clause-room c =
     let n : ℕ = c.loop-row.row in
-    let row : c.deref.result.now ≡ list_at c.args.rows.now n = read_shared c.args.rows.now n _ c.deref.result.now (omega arith) c.deref.ensures.value c.index-rows-row-then-index-ne0.is in
+    let row : c.deref-then-index-ne0.result.now ≡ list_at c.args.rows.now n = read_shared c.args.rows.now n _ c.deref-then-index-ne0.result.now (omega arith) c.deref-then-index-ne0.ensures.value c.index-rows-row-then-index-ne0.is in
     let inside : n < length c.loop-row.next = (let h = c.requires.high in let a = c.loop-row.auto.next in omega arith) in
     let target : c.deref_mut.result.now ≡ list_at c.loop-row.next n = read_row c.loop-row.next n c.index-next-row.result c.deref_mut.result.now inside c.deref_mut.ensures.value in
     ap length target ∙ c.loop-row.invariant.wide n inside ∙ sym (ap length row ∙ c.requires.wide n (omega arith))
@@ -47,37 +47,53 @@ next_row-requires-clause-room c =
 pub next_row-requires-clause-width : goal.next_row-requires-clause-width
 next_row-requires-clause-width c =
     let n : ℕ = c.loop-row.row in
-    let row : c.deref.result.now ≡ list_at c.args.rows.now n = read_shared c.args.rows.now n _ c.deref.result.now (omega arith) c.deref.ensures.value c.index-rows-row-then-index-ne0.is in
+    let row : c.deref-then-index-ne0.result.now ≡ list_at c.args.rows.now n = read_shared c.args.rows.now n _ c.deref-then-index-ne0.result.now (omega arith) c.deref-then-index-ne0.ensures.value c.index-rows-row-then-index-ne0.is in
     subst (λ (i : ℕ). i < 2 ^ 32) (sym (ap length row ∙ c.requires.wide n (omega arith))) c.requires.width
 
 pub next_row-requires-clause-row : goal.next_row-requires-clause-row
 next_row-requires-clause-row c =
     let n : ℕ = c.loop-row.row in
-    let row : c.deref.result.now ≡ list_at c.args.rows.now n = read_shared c.args.rows.now n _ c.deref.result.now (omega arith) c.deref.ensures.value c.index-rows-row-then-index-ne0.is in
+    let row : c.deref-then-index-ne0.result.now ≡ list_at c.args.rows.now n = read_shared c.args.rows.now n _ c.deref-then-index-ne0.result.now (omega arith) c.deref-then-index-ne0.ensures.value c.index-rows-row-then-index-ne0.is in
     subst AllNarrow (sym row) (c.requires.narrow n (omega arith))
 
 pub next_row-requires-clause-pivot : goal.next_row-requires-clause-pivot
 next_row-requires-clause-pivot c =
-    let pivot : c.deref-then-index-ne0.result.now ≡ list_at c.args.rows.now c.args.leave = read_shared c.args.rows.now c.args.leave _ c.deref-then-index-ne0.result.now c.requires.leave c.deref-then-index-ne0.ensures.value c.index-rows-leave.is in
+    let pivot : c.deref-then-index-ne0-2.result.now ≡ list_at c.args.rows.now c.args.leave = read_shared c.args.rows.now c.args.leave _ c.deref-then-index-ne0-2.result.now c.requires.leave c.deref-then-index-ne0-2.ensures.value c.index-rows-leave-then-index-ne0.is in
     subst AllNarrow (sym pivot) (c.requires.narrow c.args.leave c.requires.leave)
+
+pub greatest-most-requires-clause-width : goal.greatest-most-requires-clause-width
+greatest-most-requires-clause-width c =
+    let pivot : c.deref.result.now ≡ list_at c.args.rows.now c.args.leave = read_shared c.args.rows.now c.args.leave _ c.deref.result.now c.requires.leave c.deref.ensures.value c.index-rows-leave.is in
+    subst (λ (r : List ℤ). length r < 2 ^ 32) (sym pivot) c.requires.width
+
+pub greatest-most-requires-clause-row : goal.greatest-most-requires-clause-row
+greatest-most-requires-clause-row c =
+    let pivot : c.deref.result.now ≡ list_at c.args.rows.now c.args.leave = read_shared c.args.rows.now c.args.leave _ c.deref.result.now c.requires.leave c.deref.ensures.value c.index-rows-leave.is in
+    subst AllNarrow (sym pivot) (c.requires.narrow c.args.leave c.requires.leave)
+
+pub next_row-requires-clause-most : goal.next_row-requires-clause-most
+next_row-requires-clause-most c =
+    let first : c.deref.result.now ≡ list_at c.args.rows.now c.args.leave = read_shared c.args.rows.now c.args.leave _ c.deref.result.now c.requires.leave c.deref.ensures.value c.index-rows-leave.is in
+    let pivot : c.deref-then-index-ne0-2.result.now ≡ list_at c.args.rows.now c.args.leave = read_shared c.args.rows.now c.args.leave _ c.deref-then-index-ne0-2.result.now c.requires.leave c.deref-then-index-ne0-2.ensures.value c.index-rows-leave-then-index-ne0.is in
+    subst (λ (r : List ℤ). IsMost r c.greatest-most.result) (first ∙ sym pivot) c.greatest-most.ensures
 
 pub next_row-requires-clause-lead : goal.next_row-requires-clause-lead
 next_row-requires-clause-lead c =
     let n : ℕ = c.loop-row.row in
-    let row : c.deref.result.now ≡ list_at c.args.rows.now n = read_shared c.args.rows.now n _ c.deref.result.now (omega arith) c.deref.ensures.value c.index-rows-row-then-index-ne0.is in
+    let row : c.deref-then-index-ne0.result.now ≡ list_at c.args.rows.now n = read_shared c.args.rows.now n _ c.deref-then-index-ne0.result.now (omega arith) c.deref-then-index-ne0.ensures.value c.index-rows-row-then-index-ne0.is in
     subst (λ (r : List ℤ). pos 0 <ℤ at r 0) (sym row) (c.requires.leads n (omega arith))
 
 pub next_row-requires-clause-pivot_lead : goal.next_row-requires-clause-pivot_lead
 next_row-requires-clause-pivot_lead c =
-    let pivot : c.deref-then-index-ne0.result.now ≡ list_at c.args.rows.now c.args.leave = read_shared c.args.rows.now c.args.leave _ c.deref-then-index-ne0.result.now c.requires.leave c.deref-then-index-ne0.ensures.value c.index-rows-leave.is in
+    let pivot : c.deref-then-index-ne0-2.result.now ≡ list_at c.args.rows.now c.args.leave = read_shared c.args.rows.now c.args.leave _ c.deref-then-index-ne0-2.result.now c.requires.leave c.deref-then-index-ne0-2.ensures.value c.index-rows-leave-then-index-ne0.is in
     subst (λ (r : List ℤ). pos 0 <ℤ at r (c.args.place + 2)) (sym pivot) c.requires.pivot_lead
 
 pub returns-in-Some-clause-some : goal.returns-in-Some-clause-some
 returns-in-Some-clause-some c =
     let n : ℕ = c.loop-row.row in
     let nl : n < length c.args.rows.now = omega arith in
-    let row : c.deref.result.now ≡ list_at c.args.rows.now n = read_shared c.args.rows.now n _ c.deref.result.now nl c.deref.ensures.value c.index-rows-row-then-index-ne0.is in
-    let pivot : c.deref-then-index-ne0.result.now ≡ list_at c.args.rows.now c.args.leave = read_shared c.args.rows.now c.args.leave _ c.deref-then-index-ne0.result.now c.requires.leave c.deref-then-index-ne0.ensures.value c.index-rows-leave.is in
+    let row : c.deref-then-index-ne0.result.now ≡ list_at c.args.rows.now n = read_shared c.args.rows.now n _ c.deref-then-index-ne0.result.now nl c.deref-then-index-ne0.ensures.value c.index-rows-row-then-index-ne0.is in
+    let pivot : c.deref-then-index-ne0-2.result.now ≡ list_at c.args.rows.now c.args.leave = read_shared c.args.rows.now c.args.leave _ c.deref-then-index-ne0-2.result.now c.requires.leave c.deref-then-index-ne0-2.ensures.value c.index-rows-leave-then-index-ne0.is in
     let first : c.index-rows-row.result.items ≡ list_at c.args.rows.now n = read_shared c.args.rows.now n c.index-rows-row.result c.index-rows-row.result.items nl refl c.index-rows-row.is in
     let wide : c.args.place + 2 < length c.index-rows-row.result.items = subst (λ (i : ℕ). c.args.place + 2 < i) (sym (ap length first ∙ c.requires.wide n nl)) c.requires.place in
     found_wide c.args.rows.now c.loop-row.next c.args.leave c.args.place n c.in-Some.column nl c.if-row-leave.true
@@ -107,8 +123,8 @@ loop-row-preserved c =
       | then-row-leave+then-index-ne0+in_default w ↦
           (let v : Vec ℤ Global = get_or c.loop-row.next n w.index-next-row.result in
           let t : Vec ℤ Global = with_items v w.next_row.new.new in
-          let row : w.deref.result.now ≡ list_at c.args.rows.now n = read_shared c.args.rows.now n _ w.deref.result.now nl w.deref.ensures.value w.index-rows-row-then-index-ne0.is in
-          let pivot : w.deref-then-index-ne0.result.now ≡ list_at c.args.rows.now c.args.leave = read_shared c.args.rows.now c.args.leave _ w.deref-then-index-ne0.result.now c.requires.leave w.deref-then-index-ne0.ensures.value w.index-rows-leave.is in
+          let row : w.deref-then-index-ne0.result.now ≡ list_at c.args.rows.now n = read_shared c.args.rows.now n _ w.deref-then-index-ne0.result.now nl w.deref-then-index-ne0.ensures.value w.index-rows-row-then-index-ne0.is in
+          let pivot : w.deref-then-index-ne0-2.result.now ≡ list_at c.args.rows.now c.args.leave = read_shared c.args.rows.now c.args.leave _ w.deref-then-index-ne0-2.result.now c.requires.leave w.deref-then-index-ne0-2.ensures.value w.index-rows-leave-then-index-ne0.is in
           let target : w.deref_mut.result.now ≡ list_at c.loop-row.next n = read_row c.loop-row.next n w.index-next-row.result w.deref_mut.result.now inside w.deref_mut.ensures.value in
           let items : t.items ≡ w.next_row.new.new = with_items_is v w.next_row.new.new (let a = w.next_row.auto.new in let b = w.deref_mut.ensures.len in omega arith) in
           let made : IsMade (list_at c.args.rows.now n) (list_at c.args.rows.now c.args.leave) c.args.place t.items =
