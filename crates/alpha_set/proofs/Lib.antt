@@ -5,3 +5,4 @@ pub mod Wide
 pub mod Filling
 pub mod Rules
 pub mod Products
+pub mod One

@@ -8,5 +8,7 @@ mod seeds;
 mod shares;
 #[cfg(test)]
 mod tests;
+mod visits;
 
 pub use seeds::seed;
+pub use visits::{lower_visit, new_node, new_point, upper_visit};

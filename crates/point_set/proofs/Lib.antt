@@ -18,3 +18,8 @@ pub mod Placing
 pub mod Wanted
 pub mod Rests
 pub mod Splitting
+pub mod One
+pub mod OneShare
+pub mod OneSplit
+pub mod OneTakes
+pub mod BestExample

@@ -7,3 +7,5 @@ pub mod Sawtooth
 pub mod Bounds
 pub mod Split
 pub mod Takes
+pub mod Best
+pub mod Tooth

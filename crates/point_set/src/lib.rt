@@ -12,6 +12,7 @@ mod split_tests;
 mod splits;
 mod stands;
 mod takes;
+mod teeth;
 #[cfg(test)]
 mod tests;
 mod times;
@@ -21,3 +22,4 @@ pub use points::{MOST_SHARE, Point, Share};
 pub use sets::{MOST_POINTS, PointSet, PushFault};
 pub use split::{MOST_ITEMS, Split};
 pub use stands::PointFault;
+pub use teeth::{best, tooth_split};
