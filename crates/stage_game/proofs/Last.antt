@@ -1,0 +1,89 @@
+-- The last dictionary of a solver, and the values that are read from it.
+use Rattle.std.proofs.Common.{◌≡◌, ◌⊎◌, ℕ, zero, suc, ◌<◌, ◌≤◌, ◌*◌, ◌+◌, ◌^◌, [], ◌∷◌, List, length, refl, sym, ap, subst, ◌∙◌, inl, inr, arith, unsigned_abs}
+use Rattle.std.specs.Prelude.{ℤ, pos, ◌*ℤ◌, ◌≤ℤ◌, ◌<ℤ◌, Option, Some, None, IfSome, IsSome, unwrap_or}
+use Rattle.std.specs.Int.{◌∣◌}
+use Rattle.std.proofs.lemmas.Bool.{cases_eq}
+use Rattle.std.proofs.lemmas.Int.{ints, unsigned_abs-mul}
+use Rattle.std.proofs.Math.Nat.{dvd-mul_right, le_of_dvd}
+use Rattle.scaled_num.proofs.Products.{mulℤ_comm}
+use Rattle.simplex.proofs.Unique.{divisor, factor}
+use Rattle.simplex.proofs.Optimum.{not_negative_factor, not_negative_product}
+use Rattle.simplex.specs.Program.{at, row_count, variable_count}
+use Rattle.simplex.specs.Dictionary.{AreCoprime, Dictionary, IsDictionary, number}
+use Rattle.simplex.specs.Reading.{IsLowest, IsPrice, IsPrimal}
+use Rattle.stage_game.specs.Reading.{IsReadable, no_dictionary}
+
+-- ---- a fact of the last dictionary, and the same as a fact of an option
+pub at-last : (o : Option Dictionary) (P : Dictionary → Type 0) → IsSome o → IfSome o P → P (unwrap_or o no_dictionary)
+at-last None P there h = cc
+at-last (Some d) P there h = h
+
+pub from-last : (o : Option Dictionary) (P : Dictionary → Type 0) → IsSome o → P (unwrap_or o no_dictionary) → IfSome o P
+from-last None P there h = cc
+from-last (Some d) P there h = h
+
+-- ---- values are narrow and not negative
+two-cases : (k : ℕ) (P : ℕ → Type 0) → k < 2 → P 0 → P 1 → P k
+two-cases zero P h a b = a
+two-cases (suc zero) P h a b = b
+two-cases (suc (suc k)) P h a b = absurd (omega arith)
+
+-- a number that divides a product, and is coprime with one factor, divides the other
+divides-other : (a b c : ℕ) → ((d : ℕ) → d ∣ a → d ∣ b → d ≡ 1) → a ∣ b * c → a ∣ c
+divides-other a b c coprime h =
+    let r = divisor b a b (omega arith) in
+    let one : r.0 ≡ 1 = coprime r.0 r.1 r.2 in
+    subst (λ (k : ℕ). a ∣ k) (ap (λ (k : ℕ). k * c) one ∙ omega arith) (r.3 a c (dvd-mul_right a c) h)
+
+coprime-parts : (num den : ℤ) → AreCoprime (num ∷ den ∷ []) → (d : ℕ) → d ∣ unsigned_abs num → d ∣ unsigned_abs den → d ≡ 1
+coprime-parts num den h d p q = h d (λ k l. two-cases k (λ (i : ℕ). d ∣ unsigned_abs (at (num ∷ den ∷ []) i)) l p q)
+
+-- a fraction in lowest terms that equals c over l has at most the magnitude of c above
+lowest-above : (a b c l most : ℕ) → 0 < l → a * l ≡ c * b → ((d : ℕ) → d ∣ a → d ∣ b → d ≡ 1) → c < most → a < most
+lowest-above a b zero l most positive e coprime small =
+    let none : a * l ≡ 0 = e ∙ omega arith in
+    elim (cases_eq a 0) [ inl z ↦ omega arith | inr ne ↦ absurd (let some : 0 < a * l = grind arith in omega arith) ]
+lowest-above a b (suc c) l most positive e coprime small =
+    let divides : a ∣ b * suc c = subst (λ (k : ℕ). a ∣ k) (e ∙ omega arith) (dvd-mul_right a l) in
+    let most_c : a ≤ suc c = le_of_dvd (omega arith) (divides-other a b (suc c) coprime divides) in
+    omega arith
+
+abs-times : (a b c d : ℤ) → a *ℤ b ≡ c *ℤ d → unsigned_abs a * unsigned_abs b ≡ unsigned_abs c * unsigned_abs d
+abs-times a b c d e = sym (unsigned_abs-mul a b) ∙ ap unsigned_abs e ∙ unsigned_abs-mul c d
+
+-- what is known of a value that is read
+pub record IsRead (num den : ℤ) : Type 0 where
+  pub positive : pos 0 <ℤ den
+  pub not_negative : pos 0 ≤ℤ num
+  pub small : unsigned_abs num < 2 ^ 62
+
+none-read : (num den : ℤ) → pos 0 <ℤ den → num ≡ pos 0 → IsRead num den
+none-read num den positive e = record {
+  positive = positive;
+  not_negative = subst (λ z. pos 0 ≤ℤ z) (sym e) (omega (arith, ints));
+  small = subst (λ z. unsigned_abs z < 2 ^ 62) (sym e) (omega arith);
+}
+
+basic-read : (num den lead constant : ℤ) → IsLowest num den → pos 0 <ℤ lead → pos 0 ≤ℤ constant → unsigned_abs constant < 2 ^ 62 → num *ℤ lead ≡ constant *ℤ den → IsRead num den
+basic-read num den lead constant lowest lead_positive low small e = record {
+  positive = lowest.positive;
+  not_negative = not_negative_factor lead num lead_positive
+      (subst (λ z. pos 0 ≤ℤ z) (sym e ∙ turn num lead) (not_negative_product constant den low (let p = lowest.positive in omega (arith, ints))));
+  small = lowest-above (unsigned_abs num) (unsigned_abs den) (unsigned_abs constant) (unsigned_abs lead) (2 ^ 62) (omega (arith, ints)) (abs-times num lead constant den e) (coprime-parts num den lowest.coprime) small;
+}
+  where
+    turn : (x y : ℤ) → x *ℤ y ≡ y *ℤ x
+    turn x y = mulℤ_comm x y
+
+pub value-read : (d : Dictionary) (i : ℕ) (num den : ℤ) → IsReadable d → i < length d.out → IsPrimal d i num den → IsRead num den
+value-read d i num den readable inside primal =
+    let id = readable.dictionary in
+    let basic_long : length d.basic ≡ row_count readable.program = id.parted.basic_long in
+    let out_long : length d.out ≡ variable_count readable.program = id.parted.out_long in
+    elim (id.parted.found i (omega arith)) [
+      | inl (k, kl, e) ↦ basic-read num den (number d k 0) (number d k 1) primal.lowest (id.leads k kl)
+          (readable.feasible k (omega arith))
+          (readable.narrow.rows k (omega (arith, id.high)) 1 (omega (arith, id.long k kl)))
+          (primal.basic k (omega arith) e)
+      | inr (q, ql, e) ↦ none-read num den primal.lowest.positive (primal.out q (omega arith) e)
+    ]

@@ -1,0 +1,64 @@
+-- Mixes of all states, one behind another, are mixes.
+use Rattle.std.proofs.Common.{◌≡◌, ℕ, zero, suc, ◌<◌, ◌≤◌, ◌+◌, ◌*◌, ◌++◌, [], List, length, get_or, refl, sym, subst, ap, ◌∙◌, arith}
+use Rattle.std.specs.Prelude.{ℤ, pos, flat_map, ◌≤ℤ◌, ◌+ℤ◌}
+use Rattle.std.specs.List.{AllByRecursion, range_with_len}
+use Rattle.std.proofs.lemmas.List.{length-append}
+use Rattle.std.proofs.Math.Seq.{get_or-append, get_or-append_right}
+use Rattle.scaled_num.proofs.Sums.{each-flat_map, from-each, total-below, total-places}
+use Rattle.scaled_num.specs.Share.{at}
+use Rattle.scaled_num.specs.Sums.{below, sum_of, total}
+use Rattle.belief.specs.Mixes.{AreMixes, MixesData, mix_at}
+use Rattle.game_model.specs.Branches.{mix_total}
+use Rattle.game_model.specs.Game.{GameData, IsWithin}
+use Rattle.simplex.specs.Dictionary.{Dictionary}
+use Rattle.stage_game.specs.Advice.{AreInformedRead}
+use Rattle.stage_game.specs.Fits.{MixesFit}
+use Rattle.stage_game.proofs.ReadWeights.{state-mix}
+use Rattle.stage_game.proofs.SharedTotals.{ArePartsOf, parts-within}
+
+blocks-long : (f : ℕ → List ℤ) (count a n : ℕ) → ((i : ℕ) → i < a + n → length (f i) ≡ count) → length (flat_map f (range_with_len a n)) ≡ n * count
+blocks-long f count a zero h = refl
+blocks-long f count a (suc n) h =
+    length-append (f a) (flat_map f (range_with_len (a + 1) n))
+    ∙ (let rest : length (flat_map f (range_with_len (a + 1) n)) ≡ n * count = blocks-long f count (a + 1) n (λ i l. h i (omega arith)) in
+    let here : length (f a) ≡ count = h a (omega arith) in
+    let both : length (f a) + length (flat_map f (range_with_len (a + 1) n)) ≡ suc n * count = omega arith in both)
+
+-- the number at a place of a block
+block-at : (f : ℕ → List ℤ) (count a n i c : ℕ) → ((i : ℕ) → i < a + n → length (f i) ≡ count) → i < n → c < count
+    → at (flat_map f (range_with_len a n)) (i * count + c) ≡ at (f (a + i)) c
+block-at f count a zero i c h l k = absurd (omega arith)
+block-at f count a (suc n) zero c h l k =
+    get_or-append (f a) (flat_map f (range_with_len (a + 1) n)) c (pos 0) (omega (arith, h a (omega arith)))
+    ∙ ap (λ (j : ℕ). at (f j) c) (omega arith)
+block-at f count a (suc n) (suc i) c h l k =
+    ap (at (f a ++ flat_map f (range_with_len (a + 1) n))) (let split : suc i * count + c ≡ length (f a) + (i * count + c) = omega (arith, h a (omega arith)) in split)
+    ∙ get_or-append_right (f a) (flat_map f (range_with_len (a + 1) n)) (i * count + c) (pos 0)
+    ∙ block-at f count (a + 1) n i c (λ i l. h i (omega arith)) (omega arith) k
+    ∙ ap (λ (j : ℕ). at (f j) c) (omega arith)
+
+pub are-mixes : (states actions : ℕ) (mix : ℕ → List ℤ) → ((s : ℕ) → s < states → ArePartsOf (pos mix_total) actions (mix s))
+    → AreMixes (record { states = states; actions = actions; weights = flat_map mix (below states) })
+are-mixes states actions mix parts = record {
+  long = blocks-long mix actions 0 states (λ i l. (parts i l).long);
+  each = each-flat_map (IsWithin (pos 0) (pos mix_total)) mix (below states)
+      (from-each (λ s. AllByRecursion (IsWithin (pos 0) (pos mix_total)) (mix s)) 0 states (λ s low l. parts-within (pos mix_total) actions (mix s) (parts s l)));
+  sums = λ s l.
+      total-below actions (λ c. at (flat_map mix (below states)) (s * actions + c)) (λ c. at (mix s) c)
+      (λ c k. block-at mix actions 0 states s c (λ i l. (parts i l).long) l k ∙ ap (λ (j : ℕ). at (mix j) c) (omega arith))
+      ∙ ap (λ (n : ℕ). total (λ c. at (mix s) c) (below n)) (sym (parts s l).long)
+      ∙ total-places (λ x. x) (pos 0) (mix s)
+      ∙ (parts s l).sums;
+}
+
+pub informed-fit : (g : GameData) (d : Dictionary) (mixes : MixesData) → 0 < g.shape.informed_actions → AreInformedRead g d mixes → MixesFit g mixes
+informed-fit g d mixes some read = record {
+  states = read.states;
+  actions = read.actions;
+  right = subst AreMixes (same mixes read.states read.actions read.same)
+      (are-mixes g.shape.states g.shape.informed_actions read.mix (λ s l. state-mix g d s (read.mix s) some (read.read s l)));
+}
+  where
+    same : (mixes : MixesData) → mixes.states ≡ g.shape.states → mixes.actions ≡ g.shape.informed_actions → mixes.weights ≡ flat_map read.mix (below g.shape.states)
+        → record { states = g.shape.states; actions = g.shape.informed_actions; weights = flat_map read.mix (below g.shape.states) } ≡ mixes
+    same mixes p q r = cc
