@@ -1,13 +1,18 @@
 -- A stage program is bounded: it has no direction in which its goal grows without end.
-use Rattle.std.proofs.Common.{◌≡◌, ◌⊎◌, ℕ, zero, suc, ◌<◌, ◌≤◌, ◌+◌, ◌*◌, ◌++◌, ◌∷◌, [], List, Bool, true, false, cond, length, map, get_or, replicate, refl, sym, subst, ap, ◌∙◌, inl, inr, arith, eq-eqb}
-use Rattle.std.specs.Prelude.{ℤ, pos, neg_ℤ, flat_map, slice_index_or, ◌&&◌, ◌==◌, ◌+ℤ◌, ◌*ℤ◌, ◌≤ℤ◌, ◌<ℤ◌}
+use Rattle.std.proofs.Common.{◌≡◌, ◌⊎◌, ℕ, zero, suc, ◌<◌, ◌≤◌, ◌+◌, ◌*◌, ◌++◌, ◌/◌, ◌^◌, ◌∷◌, [], List, Bool, true, false, cond, length, map, get_or, replicate, refl, sym, subst, ap, ◌∙◌, inl, inr, arith, eq-eqb}
+use Rattle.std.specs.Prelude.{ℤ, pos, negsuc, flat_map, slice_index_or, ◌&&◌, ◌==◌, ◌+ℤ◌, ◌*ℤ◌, ◌≤ℤ◌, ◌<ℤ◌}
 use Rattle.std.specs.List.{AllByRecursion}
 use Rattle.std.proofs.lemmas.Bool.{cases_eq}
 use Rattle.std.proofs.lemmas.Int.{ints}
-use Rattle.std.proofs.lemmas.List.{length-append, length-map}
+use Rattle.std.proofs.lemmas.List.{get_or-set_same, length-append, length-map}
+use Rattle.std.proofs.lemmas.Nat.{pow_pos}
+use Rattle.std.proofs.Math.Nat.{div-one}
+use Rattle.scaled_num.proofs.Floors.{NoneNegative, replicate-none_negative, set-none_negative, tail-none_negative}
 use Rattle.scaled_num.proofs.Each.{at-below, each-back, each-by-place, each-front, each-of-flat_map, each-of-map, get-map}
 use Rattle.scaled_num.proofs.Sums.{below-each, each, each-append, each-at, each-flat_map, each-map}
-use Rattle.scaled_num.specs.Sums.{below}
+use Rattle.scaled_num.specs.Sums.{below, sum_of}
+use Rattle.belief.proofs.Parts.{corner-sum}
+use Rattle.belief.specs.Beliefs.{corner_of}
 use Rattle.game_model.specs.Game.{GameData}
 use Rattle.alpha_set.specs.Nodes.{NodeData}
 use Rattle.simplex.proofs.Optimum.{not_negative_product}
@@ -15,9 +20,13 @@ use Rattle.scaled_num.proofs.Products.{mulℤ_comm}
 use Rattle.simplex.proofs.Combine.{sum_zero}
 use Rattle.simplex.proofs.Unique.{factor}
 use Rattle.simplex.specs.Program.{at, sum_to}
+use Rattle.point_set.specs.Corners.{IsCurrentCorner, point_at}
+use Rattle.point_set.specs.Points.{PointData}
+use Rattle.stage_game.specs.Asked.{AreUpperEnds}
 use Rattle.stage_game.specs.LowerProgram.{going_on_row, lower_program, lower_worth_row}
 use Rattle.stage_game.specs.Masses.{over_pairs}
-use Rattle.stage_game.specs.Scaling.{goal_at, mix_row, stage_program, worth_rows}
+use Rattle.stage_game.specs.Scaling.{floor_of, goal_at, mix_row, scale, stage_program, worth_rows}
+use Rattle.stage_game.specs.UpperProgram.{point_row, upper_program, upper_worth_row}
 use Rattle.stage_game.specs.Variables.{GoesOn, Plays, ProgramData, Variable, WorthOf, variables}
 
 -- numbers of the variables, none negative, by which no row's sum rises, and the goal's does
@@ -26,6 +35,10 @@ pub record HasRise (p : ProgramData) : Type 0 where
   pub not_negative : (j : ℕ) → j < length p.goal → pos 0 ≤ℤ (x j)
   pub rows_kept : (i : ℕ) → i < length p.limits → sum_to (length p.goal) (λ j. at (slice_index_or p.rows i []) j *ℤ x j) ≤ℤ pos 0
   pub goal_rises : pos 0 <ℤ sum_to (length p.goal) (λ j. at p.goal j *ℤ x j)
+
+length-replicate : (n : ℕ) (x : ℤ) → length (replicate n x) ≡ n
+length-replicate zero x = refl
+length-replicate (suc n) x = ap suc (length-replicate n x)
 
 -- ---- sums of numbers that are not negative
 sum-low : (n : ℕ) (f : ℕ → ℤ) → ((j : ℕ) → j < n → pos 0 ≤ℤ f j) → pos 0 ≤ℤ sum_to n f
@@ -210,7 +223,7 @@ rise-of g belief bits ends rows rise =
     each-by-place (Rises vars rise.x) mix_row (rows ++ mix_row ∷ [])
     (λ i l.
     let inside : i < length (replicate (length rows) (pos 0) ++ pos 1 ∷ []) =
-    omega (arith, length-append rows (mix_row ∷ []), length-append (replicate (length rows) (pos 0)) (pos 1 ∷ []), length-zeros (length rows)) in
+    omega (arith, length-append rows (mix_row ∷ []), length-append (replicate (length rows) (pos 0)) (pos 1 ∷ []), length-replicate (length rows) (pos 0)) in
     subst (λ (n : ℕ). sum_to n (λ j. at (map (get_or (rows ++ mix_row ∷ []) i mix_row) vars) j *ℤ rise.x j) ≤ℤ pos 0) goal_long
     (subst (λ (row : List ℤ). sum_to (length (map (goal_at belief bits) vars)) (λ j. at row j *ℤ rise.x j) ≤ℤ pos 0)
     (get-map line (rows ++ mix_row ∷ []) i mix_row [] l) (rise.rows_kept i inside))) in
@@ -221,10 +234,6 @@ rise-of g belief bits ends rows rise =
       mix = (each-back (Rises vars rise.x) rows (mix_row ∷ []) all).0;
       rises = subst (λ (n : ℕ). pos 0 <ℤ sum_to n (λ j. at (map (goal_at belief bits) vars) j *ℤ rise.x j)) goal_long rise.goal_rises;
     }
-  where
-    length-zeros : (n : ℕ) → length (replicate n (pos 0)) ≡ n
-    length-zeros zero = refl
-    length-zeros (suc n) = ap suc (length-zeros n)
 
 -- the rows of the worths, one by one
 worth-row : (P : (Variable → ℤ) → Type 0) (g : GameData) (row : ℕ → ℕ → Variable → ℤ) (s c : ℕ) → s < g.shape.states → c < g.shape.informed_actions → AllByRecursion P (worth_rows g row) → P (row s c)
@@ -301,4 +310,77 @@ lower-bounded g belief nodes candidates bits some =
         going = λ b p q. low-choice ((b == a) && (p == o)) (pos 1) (omega (arith, ints));
         own = subst (λ b. pos 0 <ℤ cond b (pos 1) (pos 0)) (sym (both-same a o)) (omega (arith, ints));
       },
+    ))
+
+-- ---- the upper program
+at-any : (xs : List ℤ) → NoneNegative xs → (q : ℕ) → pos 0 ≤ℤ at xs q
+at-any [] low q = omega (arith, ints)
+at-any (x ∷ xs) low zero = low 0 (pos 0) (omega arith)
+at-any (x ∷ xs) low (suc q) = at-any xs (tail-none_negative x xs low) q
+
+floor-low : (a b : ℤ) → pos 0 ≤ℤ a → pos 0 <ℤ b → pos 0 ≤ℤ floor_of a b
+floor-low (pos a) (pos b) p q = omega (arith, ints)
+floor-low (pos a) (negsuc b) p q = absurd (omega (arith, ints))
+floor-low (negsuc a) b p q = absurd (omega (arith, ints))
+
+floor-whole : (a : ℤ) → pos 0 <ℤ a → pos 0 <ℤ floor_of a (pos 1)
+floor-whole (pos a) p = let same : a / 1 ≡ a = div-one a in omega (arith, ints)
+floor-whole (negsuc a) p = absurd (omega (arith, ints))
+
+-- the belief of a corner
+record IsSureOf (t : ℕ) (belief : List ℤ) : Type 0 where
+  low : NoneNegative belief
+  one : at belief t ≡ pos 1
+  sum : sum_of belief ≡ pos 1
+
+corner-sure : (n t : ℕ) → t < n → IsSureOf t (corner_of n t)
+corner-sure n t l = record {
+  low = set-none_negative (replicate n (pos 0)) t (pos 1) (replicate-none_negative n) (omega (arith, ints));
+  one = get_or-set_same (replicate n (pos 0)) t (pos 1) (pos 0) (omega (arith, length-replicate n (pos 0)));
+  sum = corner-sum n t l;
+}
+
+point-sure : (points : List PointData) (t k : ℕ) → IsCurrentCorner points t k → IsSureOf t (point_at points k).belief
+point-sure points t k corner = subst (IsSureOf t) (sym corner.corner.belief) (corner-sure (length (point_at points k).belief) t corner.corner.state)
+
+scale-some : (bits : ℕ) → pos 0 <ℤ scale bits
+scale-some bits = let some : 0 < 2 ^ bits = pow_pos bits in omega (arith, ints)
+
+corner-row : (g : GameData) (bits : ℕ) (point : PointData) (a o t : ℕ) → IsSureOf t point.belief → IsGoingRow (point_row g bits point a o) a o t
+corner-row g bits point a o t sure =
+    let some : pos 0 <ℤ scale bits = scale-some bits in
+    let low : pos 0 ≤ℤ scale bits = omega (arith, ints) in
+    let whole : pos 0 <ℤ sum_of point.belief = subst (λ z. pos 0 <ℤ z) (sym sure.sum) (omega (arith, ints)) in
+    record {
+      worth = λ s. refl;
+      going = λ b p q. low-choice ((b == a) && (p == o)) (floor_of (scale bits *ℤ at point.belief q) (sum_of point.belief))
+          (floor-low (scale bits *ℤ at point.belief q) (sum_of point.belief) (not_negative_product (scale bits) (at point.belief q) low (at-any point.belief sure.low q)) whole);
+      own = subst (λ b. pos 0 <ℤ cond b (floor_of (scale bits *ℤ at point.belief t) (sum_of point.belief)) (pos 0)) (sym (both-same a o))
+          (subst (λ z. pos 0 <ℤ floor_of (scale bits *ℤ at point.belief t) z) (sym sure.sum)
+          (floor-whole (scale bits *ℤ at point.belief t) (subst (λ z. pos 0 <ℤ (scale bits *ℤ z)) (sym sure.one) (times-one (scale bits) some))));
+    }
+  where
+    times-one : (x : ℤ) → pos 0 <ℤ x → pos 0 <ℤ (x *ℤ pos 1)
+    times-one x l = omega (arith, ints)
+
+pub upper-bounded : (g : GameData) (belief : List ℤ) (points : List PointData) (candidates : List ℕ) (bits : ℕ) → 0 < g.shape.informed_actions
+    → AreUpperEnds g points candidates → HasRise (upper_program g belief points candidates bits) → ⊥
+upper-bounded g belief points candidates bits some ends =
+    let worth : List (Variable → ℤ) = worth_rows g (upper_worth_row g bits) in
+    let after : ℕ → ℕ → List (Variable → ℤ) = λ a o. map (λ k. point_row g bits (point_at points k) a o) candidates in
+    let pairs : List (Variable → ℤ) = over_pairs g after in
+    bounded g belief bits (below g.shape.states) (λ t. t < g.shape.states) (worth ++ pairs) (below-each (λ t. t < g.shape.states) g.shape.states (λ i l. l))
+    (λ P all s ls. (
+      upper_worth_row g bits s 0,
+      worth-row P g (upper_worth_row g bits) s 0 ls some (each-front P worth pairs all),
+      record { worth = λ t. low-choice (t == s) (pos 1) (omega (arith, ints)); own = own-worth s },
+    ))
+    (λ P all a o t inside.
+    let found = ends.each t inside.2 in
+    let corner : ℕ = ends.corners t in (
+      point_row g bits (point_at points corner) a o,
+      subst (λ (k : ℕ). P (point_row g bits (point_at points k) a o)) found.2
+          (each-at (λ k. P (point_row g bits (point_at points k) a o)) 0 candidates found.0
+          (each-of-map P (λ k. point_row g bits (point_at points k) a o) candidates (pair-rows P g after a o inside.0 inside.1 (each-back P worth pairs all))) found.1),
+      corner-row g bits (point_at points corner) a o t (point-sure points t corner (ends.current t inside.2)),
     ))

@@ -1,8 +1,8 @@
 -- Lists that are made of one part for each number below a count, in order.
-use Rattle.std.proofs.Common.{◌≡◌, ◌⊎◌, ℕ, zero, suc, ◌<◌, ◌+◌, ◌++◌, ◌∷◌, [], List, Bool, true, false, cond, refl, sym, subst, ap, ap₂, ◌∙◌, arith, eq-eqb}
+use Rattle.std.proofs.Common.{◌≡◌, ◌⊎◌, ℕ, zero, suc, ◌<◌, ◌+◌, ◌*◌, ◌++◌, ◌∷◌, [], List, Bool, true, false, cond, length, refl, sym, subst, ap, ap₂, ◌∙◌, arith, eq-eqb, append_assoc}
 use Rattle.std.specs.Prelude.{flat_map, map, ◌==◌}
 use Rattle.std.specs.List.{range_with_len}
-use Rattle.std.proofs.lemmas.List.{append-nil}
+use Rattle.std.proofs.lemmas.List.{append-nil, length-append}
 use Rattle.std.proofs.lemmas.Bool.{cases_eq, ne_eqb}
 use Rattle.std.proofs.lemmas.List.FromFn.{map-range_with_len_more}
 use Rattle.std.proofs.lemmas.Grind.{flat_map-append}
@@ -57,3 +57,29 @@ made-more R part count items x made right = record {
       ∙ sym (ap (flat_map (λ i. part (changed made.value count x i))) (below-more count)
       ∙ flat_map-append (λ i. part (changed made.value count x i)) (below count) (count ∷ []));
 }
+
+-- such items stand behind those before
+pub record Adds {X Y : Type 0} (R : ℕ → X → Type 0) (part : X → List Y) (count : ℕ) (old new : List Y) : Type 0 where
+  pub added : List Y
+  pub made : AreMade R part count added
+  pub same : new ≡ old ++ added
+
+pub adds-none : {X Y : Type 0} (R : ℕ → X → Type 0) (part : X → List Y) (old : List Y) → X → Adds R part 0 old old
+adds-none R part old x = record { added = []; made = made-none R part x; same = sym (append-nil old) }
+
+pub adds-more : {X Y : Type 0} (R : ℕ → X → Type 0) (part : X → List Y) (count : ℕ) (old middle new : List Y) (x : X) → Adds R part count old middle → R count x → new ≡ middle ++ part x
+    → Adds R part (count + 1) old new
+adds-more R part count old middle new x adds right e = record {
+  added = adds.added ++ part x;
+  made = made-more R part count adds.added x adds.made right;
+  same = e ∙ ap (λ (ys : List _). ys ++ part x) adds.same ∙ append_assoc old adds.added (part x);
+}
+
+-- blocks of one length, one behind another
+pub blocks-long : {X : Type 0} (f : ℕ → List X) (count a n : ℕ) → ((i : ℕ) → i < a + n → length (f i) ≡ count) → length (flat_map f (range_with_len a n)) ≡ n * count
+blocks-long f count a zero h = refl
+blocks-long f count a (suc n) h =
+    length-append (f a) (flat_map f (range_with_len (a + 1) n))
+    ∙ (let rest : length (flat_map f (range_with_len (a + 1) n)) ≡ n * count = blocks-long f count (a + 1) n (λ i l. h i (omega arith)) in
+    let here : length (f a) ≡ count = h a (omega arith) in
+    let both : length (f a) + length (flat_map f (range_with_len (a + 1) n)) ≡ suc n * count = omega arith in both)

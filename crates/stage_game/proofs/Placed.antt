@@ -10,7 +10,7 @@ use Rattle.scaled_num.specs.Share.{at}
 use Rattle.scaled_num.specs.Sums.{below, total}
 use Rattle.game_model.specs.Branches.{AreRising, Branch, IsBranchBefore, branches_at}
 use Rattle.game_model.specs.Game.{GameData}
-use Rattle.stage_game.specs.AdviceData.{listed}
+use Rattle.stage_game.specs.AdviceData.{listed, listed_one}
 use Rattle.stage_game.specs.Asked.{AreRisingNumbers}
 use Rattle.stage_game.specs.Masses.{over_pairs}
 
@@ -170,12 +170,12 @@ map-each P f a (suc n) h = (h a (omega arith), map-each P f (a + 1) n (λ i l. h
 
 pub listed-before : (a o : ℕ) (members : List ℕ) (weights : List ℤ) → AreRisingNumbers members → AllBefore (listed a o members weights)
 listed-before a o members weights rising =
-    map-before (λ i. record { own = a; seen = o; member = slice_index members i; weight = at weights i }) 0 (length members)
+    map-before (listed_one a o members weights) 0 (length members)
     (λ i j l k. inr (refl, inr (refl, rising-at members rising i j l k)))
 
 pub listed-at : (a o : ℕ) (members : List ℕ) (weights : List ℤ) → AllByRecursion (IsAt a o) (listed a o members weights)
 listed-at a o members weights =
-    map-each (IsAt a o) (λ i. record { own = a; seen = o; member = slice_index members i; weight = at weights i }) 0 (length members) (λ i l. (refl, refl))
+    map-each (IsAt a o) (listed_one a o members weights) 0 (length members) (λ i l. (refl, refl))
 
 pub each-passed : (P : Branch → Type 0) (test : Branch → Bool) (xs : List Branch) → AllByRecursion P xs → AllByRecursion P (filter test xs)
 each-passed P test xs h = each-filter P test xs h

@@ -65,7 +65,7 @@ pub length-left : (prices : List ℕ) (bits : ℕ) → length (map pos (shifted 
 length-left [] bits = refl
 length-left (x ∷ xs) bits = ap suc (length-left xs bits)
 
-pub left-small : (prices : List ℕ) (bits : ℕ) → length prices ≤ 24 → FitShifted prices bits → sum_of (map pos (shifted bits prices)) ≤ℤ pos (2 ^ 100)
+pub left-small : (prices : List ℕ) (bits : ℕ) → length prices < 2 ^ 32 → FitShifted prices bits → sum_of (map pos (shifted bits prices)) ≤ℤ pos (2 ^ 100)
 left-small prices bits short h =
     let most : sum_of (map pos (shifted bits prices)) ≤ℤ pos (length (map pos (shifted bits prices)) * weight_end) = sum-most weight_end (map pos (shifted bits prices)) (left-within prices bits h) in
     let long : length (map pos (shifted bits prices)) ≡ length prices = length-left prices bits in

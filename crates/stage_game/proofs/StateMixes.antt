@@ -2,8 +2,8 @@
 use Rattle.std.proofs.Common.{◌≡◌, ℕ, zero, suc, ◌<◌, ◌≤◌, ◌+◌, ◌*◌, ◌++◌, [], List, length, get_or, refl, sym, subst, ap, ◌∙◌, arith}
 use Rattle.std.specs.Prelude.{ℤ, pos, flat_map, ◌≤ℤ◌, ◌+ℤ◌}
 use Rattle.std.specs.List.{AllByRecursion, range_with_len}
-use Rattle.std.proofs.lemmas.List.{length-append}
-use Rattle.std.proofs.Math.Seq.{get_or-append, get_or-append_right}
+use Rattle.std.proofs.lemmas.List.{get_or-append-add, length-append}
+use Rattle.std.proofs.Math.ListN.{get_or-append}
 use Rattle.scaled_num.proofs.Sums.{each-flat_map, from-each, total-below, total-places}
 use Rattle.scaled_num.specs.Share.{at}
 use Rattle.scaled_num.specs.Sums.{below, sum_of, total}
@@ -13,27 +13,20 @@ use Rattle.game_model.specs.Game.{GameData, IsWithin}
 use Rattle.simplex.specs.Dictionary.{Dictionary}
 use Rattle.stage_game.specs.Advice.{AreInformedRead}
 use Rattle.stage_game.specs.Fits.{MixesFit}
+use Rattle.stage_game.proofs.Families.{blocks-long}
 use Rattle.stage_game.proofs.ReadWeights.{state-mix}
 use Rattle.stage_game.proofs.SharedTotals.{ArePartsOf, parts-within}
-
-blocks-long : (f : ℕ → List ℤ) (count a n : ℕ) → ((i : ℕ) → i < a + n → length (f i) ≡ count) → length (flat_map f (range_with_len a n)) ≡ n * count
-blocks-long f count a zero h = refl
-blocks-long f count a (suc n) h =
-    length-append (f a) (flat_map f (range_with_len (a + 1) n))
-    ∙ (let rest : length (flat_map f (range_with_len (a + 1) n)) ≡ n * count = blocks-long f count (a + 1) n (λ i l. h i (omega arith)) in
-    let here : length (f a) ≡ count = h a (omega arith) in
-    let both : length (f a) + length (flat_map f (range_with_len (a + 1) n)) ≡ suc n * count = omega arith in both)
 
 -- the number at a place of a block
 block-at : (f : ℕ → List ℤ) (count a n i c : ℕ) → ((i : ℕ) → i < a + n → length (f i) ≡ count) → i < n → c < count
     → at (flat_map f (range_with_len a n)) (i * count + c) ≡ at (f (a + i)) c
 block-at f count a zero i c h l k = absurd (omega arith)
 block-at f count a (suc n) zero c h l k =
-    get_or-append (f a) (flat_map f (range_with_len (a + 1) n)) c (pos 0) (omega (arith, h a (omega arith)))
+    get_or-append (f a) (flat_map f (range_with_len (a + 1) n)) (pos 0) c (omega (arith, h a (omega arith)))
     ∙ ap (λ (j : ℕ). at (f j) c) (omega arith)
 block-at f count a (suc n) (suc i) c h l k =
     ap (at (f a ++ flat_map f (range_with_len (a + 1) n))) (let split : suc i * count + c ≡ length (f a) + (i * count + c) = omega (arith, h a (omega arith)) in split)
-    ∙ get_or-append_right (f a) (flat_map f (range_with_len (a + 1) n)) (i * count + c) (pos 0)
+    ∙ get_or-append-add (f a) (flat_map f (range_with_len (a + 1) n)) (i * count + c) (pos 0)
     ∙ block-at f count (a + 1) n i c (λ i l. h i (omega arith)) (omega arith) k
     ∙ ap (λ (j : ℕ). at (f j) c) (omega arith)
 

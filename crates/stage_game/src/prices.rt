@@ -82,7 +82,6 @@ pub fn read_price_weights(solver: &Solver, first: u32, prices: &mut [u64], weigh
     requires rows { first + length weights.old ≤ length (last_of solver.now).basic }
     requires few { length (last_of solver.now).basic < 2 ^ 32 }
     requires lengths { length prices.old ≡ length weights.old }
-    requires short { length weights.old ≤ 24 }
     ensures long { length weights.new ≡ length weights.old }
     ensures prices { length prices.new ≡ length prices.old }
     ensures weights { ArePriceWeights (last_of solver.now) first (length weights.old) weights.new }

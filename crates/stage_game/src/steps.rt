@@ -1,6 +1,6 @@
 //! The steps of player one, read from the last dictionary of a solver.
 
-ghost use Rattle.alpha_set.specs.Members.{branch_of};
+ghost use Rattle.game_model.specs.Branches.{branch_of};
 ghost use Rattle.alpha_set.specs.Nodes.{IsMix};
 ghost use Rattle.stage_game.specs.Advice.{AreStepsRead};
 ghost use Rattle.stage_game.specs.AdviceData.{first_going_on, has_weight, listed};

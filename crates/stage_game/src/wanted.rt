@@ -1,6 +1,6 @@
 //! The wanted points of the informed player, read from the last dictionary of a solver.
 
-ghost use Rattle.point_set.specs.Members.{branch_of};
+ghost use Rattle.game_model.specs.Branches.{branch_of};
 ghost use Rattle.stage_game.specs.Advice.{AreWantedRead};
 ghost use Rattle.stage_game.specs.AdviceData.{first_point_row, listed};
 ghost use Rattle.stage_game.specs.Passed.{AddsWanted, AddsWantedAfter};
