@@ -8,13 +8,15 @@ use Rattle.simplex.specs.declared.Program.{Program}
 use Rattle.simplex.specs.declared.End.{End}
 use Rattle.simplex.specs.declared.End.TheVariants.{Optimal, Spent, Unbounded, Wide}
 use Rattle.simplex.specs.Program.{at, row_count, AllNarrow}
-use Rattle.simplex.specs.Dictionary.{Dictionary, IsDictionary, IsNarrowDictionary, number}
+use Rattle.simplex.specs.Dictionary.{Dictionary, IsDictionary, IsNarrowDictionary, IsFeasible, number}
 use Rattle.simplex.specs.Run.{IsImproving, Enters, IsBounding, ratio, Leaves, IsTraded, IsFirst, IsPivot, IsRun, IsWideAt, all_rows, Ends, RunEnds}
 use Rattle.simplex.specs.CostForm as cost
+use Rattle.simplex.specs.CostOptimum as inner
 use Rattle.simplex.specs.CostForm.{CostForm, row_of, entry, Stands, Pivot}
 use Rattle.simplex.specs.Forms.{turned, with_costs, with_goal}
 use Rattle.simplex.proofs.Turned.{turned-coefficient, turned-size, length-turned, turned_twice, AllNarrow-turned, row-below, row-last, entry-below, length-rows, with_costs-with_goal}
 use Rattle.simplex.proofs.BothForms.{costs_of_dictionary, dictionary_of_costs}
+use Rattle.simplex.proofs.Read.{number-with_goal}
 use Rattle.simplex.proofs.Unique.{Stands-dictionary}
 
 -- as many rows as basic variables
@@ -46,7 +48,7 @@ enters_to d q h e = record { improving = improving_to d q h e.improving; least =
 pub enters_from : (d : Dictionary) (q : ℕ) → Square d → cost.Enters (with_costs d) q → Enters d q
 enters_from d q h e = record { improving = improving_from d q h e.improving; least = λ t i. e.least t (improving_to d t h i) }
 
-entry_is : (d : Dictionary) (k column : ℕ) → Square d → k < length d.basic → entry (with_costs d) k column ≡ number d k column
+pub entry_is : (d : Dictionary) (k column : ℕ) → Square d → k < length d.basic → entry (with_costs d) k column ≡ number d k column
 entry_is d k column h kl = entry-below d k column (omega arith)
 
 pub bounding_to : (d : Dictionary) (q k : ℕ) → Square d → IsBounding d q k → cost.IsBounding (with_costs d) q k
@@ -133,6 +135,15 @@ high_of p d id = id.high ∙ ap (λ (n : ℕ). n + 1) (sym id.parted.basic_long)
 
 back : (p : Program) (d : CostForm) → cost.IsDictionary p d → with_costs (with_goal d) ≡ d
 back p d id = with_costs-with_goal d (high_of p d id)
+
+pub dictionary_from : (p : Program) (d : CostForm) → cost.IsDictionary p d → IsDictionary p (with_goal d)
+dictionary_from p d id = dictionary_of_costs p (with_goal d) (subst (cost.IsDictionary p) (sym (back p d id)) id)
+
+pub narrow_with_goal : (p : Program) (d : CostForm) → cost.IsDictionary p d → cost.IsNarrowDictionary p d → IsNarrowDictionary (with_goal d)
+narrow_with_goal p d id n = narrow_from p (with_goal d) (dictionary_from p d id).high (subst (cost.IsNarrowDictionary p) (sym (back p d id)) n)
+
+pub feasible_with_goal : (d : CostForm) → inner.IsFeasible d → IsFeasible (with_goal d)
+feasible_with_goal d f = λ k kl. subst (λ (y : ℤ). pos 0 ≤ℤ y) (sym (number-with_goal d k 1 kl)) (f.each k kl)
 
 pub run_from : (p : Program) (made : ℕ) (d : CostForm) → Stands p made d → (before : List Dictionary) × (length before ≡ made) × IsRun p (with_goal d ∷ before)
 run_from p zero d s = ([], refl, first_from p (with_goal d) (subst (cost.IsFirst p) (sym (back p d s.dictionary)) s))

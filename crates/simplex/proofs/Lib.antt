@@ -22,5 +22,9 @@ pub mod OneRun
 pub mod Turned
 pub mod BothForms
 pub mod BothRuns
-pub mod Laws
+pub mod EachDictionary
+pub mod Direction
+pub mod SameNumbers
+pub mod OneReading
+pub mod AlongRuns
 pub mod Read

@@ -1,5 +1,5 @@
 -- What no improving variable means.
-use Rattle.std.proofs.Common.{ℕ, zero, suc, ◌+◌, ◌<◌, ◌≤◌, ◌≡◌, ◌≢◌, ℤ, pos, neg_ℤ, ◌+ℤ◌, ◌*ℤ◌, ◌-ℤ◌, ◌<ℤ◌, ◌≤ℤ◌, [], ◌∷◌, length, get_or, refl, sym, ap, ap₂, subst, ◌∙◌, inl, inr, arith}
+use Rattle.std.proofs.Common.{ℕ, zero, suc, ◌+◌, ◌<◌, ◌≤◌, ◌≡◌, ◌≢◌, ℤ, pos, neg_ℤ, ◌+ℤ◌, ◌*ℤ◌, ◌-ℤ◌, ◌<ℤ◌, ◌≤ℤ◌, [], ◌∷◌, length, get_or, slice_index, refl, sym, ap, ap₂, subst, ◌∙◌, inl, inr, arith}
 use Rattle.std.proofs.lemmas.Bool.{cases_lt, cases_eq}
 use Rattle.std.proofs.lemmas.Int.{ints, by_lt_z}
 use Rattle.simplex.specs.declared.Program.{Program}
@@ -28,7 +28,7 @@ sum_split n (suc m) f =
     ∙ ring (sum_to n f ∷ sum_to m (λ i. f (n + i)) ∷ f (n + m) ∷ []) ((x 0 ⊕ x 1) ⊕ x 2) (x 0 ⊕ (x 1 ⊕ x 2)) (omega arith)
 
 -- ---- how far the values are from satisfying an equation
-residual : ℕ → (ℕ → ℤ) → ℤ → (ℕ → ℤ) → ℤ → ℤ
+unfoldable pub residual : ℕ → (ℕ → ℤ) → ℤ → (ℕ → ℤ) → ℤ → ℤ
 residual n values denominator e c = sum_to n (λ v. e v *ℤ values v) -ℤ c *ℤ denominator
 
 residual-comb : (n : ℕ) (values : ℕ → ℤ) (denominator a : ℤ) (e : ℕ → ℤ) (c b : ℤ) (d : ℕ → ℤ) (k : ℤ)
@@ -46,11 +46,11 @@ residual-zero n values denominator e c h hc =
 times_nothing : (w : ℤ) → w *ℤ pos 0 ≡ pos 0
 times_nothing w = omega (arith, ints)
 
--- the rows of the dictionary hold at the values
-row_holds : (p : Program) (d : CostForm) (denominator : ℤ) (values : ℕ → ℤ) (k : ℕ) (e : ℕ → ℤ) → AreParted p d.basic d.out → ArePrimal p d denominator values → k ≤ row_count p
-    → e (owner p d.basic k) ≡ entry d k 0 → ((s : ℕ) → s ≤ row_count p → s ≢ k → e (owner p d.basic s) ≡ pos 0) → residual (suc (variable_count p + row_count p)) values denominator e (entry d k 1) ≡ pos 0
+-- a row of the dictionary, with this constant, holds at values that are 0 at the out variables
+pub row_holds : (p : Program) (d : CostForm) (denominator constant : ℤ) (values : ℕ → ℤ) (k : ℕ) (e : ℕ → ℤ) → AreParted p d.basic d.out → ((q : ℕ) → q < variable_count p → values (slice_index d.out q) ≡ pos 0)
+    → entry d k 0 *ℤ values (owner p d.basic k) ≡ constant *ℤ denominator → k ≤ row_count p → e (owner p d.basic k) ≡ entry d k 0 → ((s : ℕ) → s ≤ row_count p → s ≢ k → e (owner p d.basic s) ≡ pos 0) → residual (suc (variable_count p + row_count p)) values denominator e constant ≡ pos 0
 unfolding residual
-row_holds p d denominator values k e parted h kl own others =
+row_holds p d denominator constant values k e parted nothing_out here kl own others =
     let n : ℕ = variable_count p in
     let m : ℕ = row_count p in
     let bl : length d.basic ≡ m = parted.basic_long in
@@ -63,23 +63,33 @@ row_holds p d denominator values k e parted h kl own others =
     let nothing_else : (v : ℕ) → v < suc (n + m) → v ≢ owner p d.basic k → e v *ℤ values v ≡ pos 0 = λ v vl ne. elim (cases_lt v (n + m)) [
       | inl lt ↦ elim (parted.found v lt) [
         | inl (s, sl, is) ↦ at_owner s v (omega arith) (owner-below p d.basic s (omega arith) ∙ is) ne
-        | inr (q, ql, is) ↦ ap (λ (y : ℤ). e v *ℤ y) (ap values (sym is) ∙ h.out q ql) ∙ times_nothing (e v)
+        | inr (q, ql, is) ↦ ap (λ (y : ℤ). e v *ℤ y) (ap values (sym is) ∙ nothing_out q ql) ∙ times_nothing (e v)
       ]
       | inr ge ↦ at_owner m v (omega arith) (owner-last p d.basic m (omega arith) ∙ (let z : n + m ≡ v = omega arith in z)) ne
     ] in
-    ap (λ (s : ℤ). s -ℤ entry d k 1 *ℤ denominator)
-    (sum_single (suc (n + m)) (owner p d.basic k) (λ v. e v *ℤ values v) inside nothing_else ∙ ap (λ (y : ℤ). y *ℤ values (owner p d.basic k)) own ∙ h.basic k kl)
+    ap (λ (s : ℤ). s -ℤ constant *ℤ denominator)
+    (sum_single (suc (n + m)) (owner p d.basic k) (λ v. e v *ℤ values v) inside nothing_else ∙ ap (λ (y : ℤ). y *ℤ values (owner p d.basic k)) own ∙ here)
     ∙ omega (arith, ints)
 
+-- all rows of the dictionary hold at the values
+abbrev pub AllRowsHold : (p : Program) (d : CostForm) → IsDictionary p d → ℤ → (ℕ → ℤ) → Type 0
+AllRowsHold p d id denominator values = (k : ℕ) (kl : k ≤ row_count p) → residual (suc (variable_count p + row_count p)) values denominator ((id.each k kl).belongs.0) (entry d k 1) ≡ pos 0
+
+primal_rows_hold : (p : Program) (d : CostForm) (denominator : ℤ) (values : ℕ → ℤ) (id : IsDictionary p d) → ArePrimal p d denominator values → AllRowsHold p d id denominator values
+primal_rows_hold p d denominator values id h k kl =
+    let (e, es, eb) = (id.each k kl).belongs in
+    row_holds p d denominator (entry d k 1) values k e id.parted h.out (h.basic k kl) kl es.at_own es.at_basic
+
 -- so each equation of the program holds: its basic variables are eliminated one by one
-all_hold : (p : Program) (d : CostForm) (denominator : ℤ) (values : ℕ → ℤ) → IsDictionary p d → Determines p d.basic → ArePrimal p d denominator values
+all_hold : (p : Program) (d : CostForm) (denominator : ℤ) (values : ℕ → ℤ) (id : IsDictionary p d) → Determines p d.basic → AllRowsHold p d id denominator values
     → (t : ℕ) → t ≤ suc (row_count p) → (e : ℕ → ℤ) (c : ℤ) → Belongs p e c → ((s : ℕ) → t ≤ s → s ≤ row_count p → e (owner p d.basic s) ≡ pos 0) → residual (suc (variable_count p + row_count p)) values denominator e c ≡ pos 0
 all_hold p d denominator values id det h zero tl e c b gone =
     let none = det.zero_at e c b (λ k kl. gone k (omega arith) kl) in
     residual-zero (suc (variable_count p + row_count p)) values denominator e c (λ v vl. none.0 v (omega arith)) none.1
 all_hold p d denominator values id det h (suc t) tl e c b gone =
     let n : ℕ = suc (variable_count p + row_count p) in
-    let (f, fs, fb) = (id.each t (omega arith)).belongs in
+    let below : t ≤ row_count p = omega arith in
+    let (f, fs, fb) = (id.each t below).belongs in
     let lead : ℤ = entry d t 0 in
     let part : ℤ = e (owner p d.basic t) in
     let less : residual n values denominator (comb lead e part f) (lead *ℤ c -ℤ part *ℤ entry d t 1) ≡ pos 0 =
@@ -88,7 +98,7 @@ all_hold p d denominator values id det h (suc t) tl e c b gone =
       | inl same ↦ ap (λ (i : ℕ). comb lead e part f (owner p d.basic i)) same ∙ ap (λ (y : ℤ). lead *ℤ part -ℤ part *ℤ y) fs.at_own ∙ ring (lead ∷ part ∷ []) ((x 0 ⊗ x 1) ⊖ (x 1 ⊗ x 0)) (x 0 ⊖ x 0) (omega arith) ∙ omega (arith, ints)
       | inr ne ↦ ap₂ (λ (y z : ℤ). lead *ℤ y -ℤ part *ℤ z) (gone s (omega arith) sm) (fs.at_basic s sm ne) ∙ omega (arith, ints)
     ]) in
-    let row : residual n values denominator f (entry d t 1) ≡ pos 0 = row_holds p d denominator values t f id.parted h (omega arith) fs.at_own fs.at_basic in
+    let row : residual n values denominator f (entry d t 1) ≡ pos 0 = h t below in
     cancel lead (residual n values denominator e c) (pos 0) (id.each t (omega arith)).lead
     (take_back (lead *ℤ residual n values denominator e c) part (residual n values denominator f (entry d t 1)) row (sym (residual-comb n values denominator lead e c part f (entry d t 1)) ∙ less) ∙ sym (times_nothing lead))
   where
@@ -106,7 +116,7 @@ number_sum p k values =
     ∙ ap (λ (s : ℤ). sum_to n (λ j. number p k j *ℤ values j) +ℤ s) (sum_same m (λ i. number p k (n + i) *ℤ values (n + i)) (λ i. one_at k i *ℤ values (n + i)) (λ i il. ap (λ (y : ℤ). y *ℤ values (n + i)) (number_slack p k i))))
     (ap (λ (y : ℤ). y *ℤ values (n + m)) (number_slack p k m))
 
-equation : (p : Program) (d : CostForm) (denominator : ℤ) (values : ℕ → ℤ) → IsDictionary p d → Determines p d.basic → ArePrimal p d denominator values → (i : ℕ) → i < row_count p
+pub equation : (p : Program) (d : CostForm) (denominator : ℤ) (values : ℕ → ℤ) (id : IsDictionary p d) → Determines p d.basic → AllRowsHold p d id denominator values → (i : ℕ) → i < row_count p
     → sum_to (variable_count p) (λ j. cell p i j *ℤ values j) +ℤ values (variable_count p + i) ≡ limit p i *ℤ denominator
 unfolding residual
 equation p d denominator values id det h i il =
@@ -123,7 +133,7 @@ equation p d denominator values id det h i il =
     finish : (total a b c a2 b2 w : ℤ) → total ≡ (a +ℤ b) +ℤ c → total -ℤ w ≡ pos 0 → a ≡ a2 → b ≡ b2 → c ≡ pos 0 → a2 +ℤ b2 ≡ w
     finish total a b c a2 b2 w e h ea eb ec = omega (arith, ints)
 
-goal_value : (p : Program) (d : CostForm) (denominator : ℤ) (values : ℕ → ℤ) → IsDictionary p d → Determines p d.basic → ArePrimal p d denominator values
+pub goal_value : (p : Program) (d : CostForm) (denominator : ℤ) (values : ℕ → ℤ) (id : IsDictionary p d) → Determines p d.basic → AllRowsHold p d id denominator values
     → values (variable_count p + row_count p) ≡ sum_to (variable_count p) (λ j. gain p j *ℤ values j)
 unfolding residual
 goal_value p d denominator values id det h =
@@ -160,6 +170,31 @@ not_negative_factor a y h k = by_lt_z y (pos 0) (λ lt. absurd (let t : (y *ℤ 
 pub not_negative_product : (a b : ℤ) → pos 0 ≤ℤ a → pos 0 ≤ℤ b → pos 0 ≤ℤ (a *ℤ b)
 not_negative_product a b h k = (let t : (pos 0 *ℤ b) ≤ℤ (a *ℤ b) = times_le (pos 0) a b h k in subst (λ (y : ℤ). y ≤ℤ (a *ℤ b)) (times_zero b) t)
 
+-- the values are not negative, and keep the rows
+pub record IsPoint (p : Program) (denominator : ℤ) (values : ℕ → ℤ) : Type 0 where
+  pub not_negative : (v : ℕ) → v < variable_count p + row_count p → pos 0 ≤ℤ values v
+  pub rows_kept : (i : ℕ) → i < row_count p → sum_to (variable_count p) (λ j. cell p i j *ℤ values j) ≤ℤ (limit p i *ℤ denominator)
+
+pub point : (p : Program) (d : CostForm) (denominator : ℤ) (values : ℕ → ℤ) → IsDictionary p d → Determines p d.basic → IsFeasible d → ArePrimal p d denominator values → IsPoint p denominator values
+point p d denominator values id det feasible primal =
+    let n : ℕ = variable_count p in
+    let m : ℕ = row_count p in
+    let parted : AreParted p d.basic d.out = id.parted in
+    let bl : length d.basic ≡ m = parted.basic_long in
+    let value_sign : (v : ℕ) → v < n + m → pos 0 ≤ℤ values v = λ v vl. elim (parted.found v vl) [
+      | inl (k, kl, is) ↦ subst (λ (w : ℕ). pos 0 ≤ℤ values w) (owner-below p d.basic k (omega arith) ∙ is)
+          (not_negative_factor (entry d k 0) (values (owner p d.basic k)) (id.each k (omega arith)).lead
+          (subst (λ (y : ℤ). pos 0 ≤ℤ y) (sym (primal.basic k (omega arith))) (not_negative_product (entry d k 1) denominator (feasible.each k (omega arith)) (let i = primal.positive in omega (arith, ints)))))
+      | inr (q, ql, is) ↦ subst (λ (y : ℤ). pos 0 ≤ℤ y) (sym (ap values (sym is) ∙ primal.out q ql)) (omega (arith, ints))
+    ] in
+    record {
+      not_negative = value_sign;
+      rows_kept = λ i il. slack_left (sum_to n (λ j. cell p i j *ℤ values j)) (values (n + i)) (limit p i *ℤ denominator) (equation p d denominator values id det (primal_rows_hold p d denominator values id primal) i il) (value_sign (n + i) (omega arith));
+    }
+  where
+    slack_left : (s v l : ℤ) → s +ℤ v ≡ l → pos 0 ≤ℤ v → s ≤ℤ l
+    slack_left s v l e h = omega (arith, ints)
+
 pub optimum : (p : Program) (d : CostForm) (denominator : ℤ) (values multipliers : ℕ → ℤ) → IsDictionary p d → Determines p d.basic → IsFeasible d → ((q : ℕ) → IsImproving d q → ⊥)
     → ArePrimal p d denominator values → AreDual p d multipliers → IsOptimum p (entry d (row_count p) 0) denominator values multipliers
 optimum p d denominator values multipliers id det feasible none primal dual =
@@ -170,12 +205,7 @@ optimum p d denominator values multipliers id det feasible none primal dual =
     let ol : length d.out ≡ n = parted.out_long in
     let lead : ℤ = entry d m 0 in
     let (g, gs, gb) = (id.each m (omega arith)).belongs in
-    let value_sign : (v : ℕ) → v < n + m → pos 0 ≤ℤ values v = λ v vl. elim (parted.found v vl) [
-      | inl (k, kl, is) ↦ subst (λ (w : ℕ). pos 0 ≤ℤ values w) (owner-below p d.basic k (omega arith) ∙ is)
-          (not_negative_factor (entry d k 0) (values (owner p d.basic k)) (id.each k (omega arith)).lead
-          (subst (λ (y : ℤ). pos 0 ≤ℤ y) (sym (primal.basic k (omega arith))) (not_negative_product (entry d k 1) denominator (feasible.each k (omega arith)) (let i = primal.positive in omega (arith, ints)))))
-      | inr (q, ql, is) ↦ subst (λ (y : ℤ). pos 0 ≤ℤ y) (sym (ap values (sym is) ∙ primal.out q ql)) (omega (arith, ints))
-    ] in
+    let at_point : IsPoint p denominator values = point p d denominator values id det feasible primal in
     let cost_sign : (q : ℕ) → q < n → pos 0 ≤ℤ entry d m (q + 2) = λ q ql. by_lt_z (entry d m (q + 2)) (pos 0)
     (λ lt. absurd (none q (omega arith, subst (λ (k : ℕ). entry d k (q + 2) <ℤ pos 0) (sym bl) lt))) (λ le. le) in
     let g_sign : (v : ℕ) → v < n + m → pos 0 ≤ℤ g v = λ v vl. elim (parted.found v vl) [
@@ -188,19 +218,16 @@ optimum p d denominator values multipliers id det feasible none primal dual =
     ] in
     let g_last : g (n + m) ≡ lead = ap g (sym (owner-last p d.basic m (omega arith))) ∙ gs.at_own in
     record {
-      values_not_negative = value_sign;
-      rows_kept = λ i il. slack_left (sum_to n (λ j. cell p i j *ℤ values j)) (values (n + i)) (limit p i *ℤ denominator) (equation p d denominator values id det primal i il) (value_sign (n + i) (omega arith));
+      values_not_negative = at_point.not_negative;
+      rows_kept = at_point.rows_kept;
       multipliers_not_negative = λ i il. subst (λ (y : ℤ). pos 0 ≤ℤ y) (g_dual i il) (g_sign (n + i) (omega arith));
       columns_kept = λ j jl. column_left (g j) (sum_to m (λ i. multipliers i *ℤ cell p i j)) (lead *ℤ gain p j)
           (gb.own j jl ∙ ap₂ (λ (s t : ℤ). s -ℤ t *ℤ gain p j) (sum_same m (λ i. g (n + i) *ℤ cell p i j) (λ i. multipliers i *ℤ cell p i j) (λ i il. ap (λ (y : ℤ). y *ℤ cell p i j) (g_dual i il))) g_last)
           (g_sign j (omega arith));
-      value_of_goal = goal_value p d denominator values id det primal;
+      value_of_goal = goal_value p d denominator values id det (primal_rows_hold p d denominator values id primal);
       equal_values = ap (λ (v : ℕ). lead *ℤ values v) (sym (owner-last p d.basic m (omega arith))) ∙ primal.basic m (omega arith)
           ∙ ap (λ (y : ℤ). y *ℤ denominator) (gb.constant_is ∙ sum_same m (λ i. g (n + i) *ℤ limit p i) (λ i. multipliers i *ℤ limit p i) (λ i il. ap (λ (y : ℤ). y *ℤ limit p i) (g_dual i il)));
     }
   where
-    slack_left : (s v l : ℤ) → s +ℤ v ≡ l → pos 0 ≤ℤ v → s ≤ℤ l
-    slack_left s v l e h = omega (arith, ints)
-
     column_left : (g s l : ℤ) → g ≡ s -ℤ l → pos 0 ≤ℤ g → l ≤ℤ s
     column_left g s l e h = omega (arith, ints)

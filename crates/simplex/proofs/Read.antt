@@ -21,14 +21,14 @@ use Rattle.simplex.proofs.Turned.{turned-lead, turned-coefficient}
 use Rattle.simplex.proofs.Unique.{owner-below, owner-last}
 
 -- ---- a common denominator: the product of the leads
-product_to : ℕ → (ℕ → ℤ) → ℤ
+pub product_to : ℕ → (ℕ → ℤ) → ℤ
 product_to zero f = pos 1
 product_to (suc k) f = product_to k f *ℤ f k
 
-positive_product : (a b : ℤ) → pos 0 <ℤ a → pos 0 <ℤ b → pos 0 <ℤ (a *ℤ b)
+pub positive_product : (a b : ℤ) → pos 0 <ℤ a → pos 0 <ℤ b → pos 0 <ℤ (a *ℤ b)
 positive_product a b h k = subst (λ (y : ℤ). y <ℤ (a *ℤ b)) (times_zero b) (times_lt (pos 0) a b h k)
 
-product_positive : (n : ℕ) (f : ℕ → ℤ) → ((k : ℕ) → k < n → pos 0 <ℤ f k) → pos 0 <ℤ product_to n f
+pub product_positive : (n : ℕ) (f : ℕ → ℤ) → ((k : ℕ) → k < n → pos 0 <ℤ f k) → pos 0 <ℤ product_to n f
 unfolding product_to
 product_positive zero f h = omega (arith, ints)
 product_positive (suc n) f h = positive_product (product_to n f) (f n) (product_positive n f (λ k kl. h k (omega arith))) (h n (omega arith))
@@ -43,10 +43,10 @@ cofactor (suc n) f k h = elim (cases_eq k n) [
 ]
 
 -- ---- where a variable stands
-Found : (ℕ → ℕ) → ℕ → ℕ → Type 0
+pub Found : (ℕ → ℕ) → ℕ → ℕ → Type 0
 Found f n v = ((k : ℕ) × (k < n) × (f k ≡ v)) ⊎ ((k : ℕ) → k < n → f k ≢ v)
 
-find : (f : ℕ → ℕ) (n v : ℕ) → Found f n v
+pub find : (f : ℕ → ℕ) (n v : ℕ) → Found f n v
 unfolding Found
 find f zero v = inr (λ k kl. absurd (omega arith))
 find f (suc n) v = elim (cases_eq (f n) v) [
@@ -58,12 +58,12 @@ find f (suc n) v = elim (cases_eq (f n) v) [
 ]
 
 -- ---- values
-value_at : (n : ℕ) (leads constants : ℕ → ℤ) (f : ℕ → ℕ) (v : ℕ) → Found f n v → ℤ
+pub value_at : (n : ℕ) (leads constants : ℕ → ℤ) (f : ℕ → ℕ) (v : ℕ) → Found f n v → ℤ
 unfolding Found
 value_at n leads constants f v (inl (k, kl, e)) = constants k *ℤ (cofactor n leads k kl).0
 value_at n leads constants f v (inr none) = pos 0
 
-value_there : (n : ℕ) (leads constants : ℕ → ℤ) (f : ℕ → ℕ) (k : ℕ) → k < n → ((s : ℕ) → s < n → f s ≡ f k → s ≡ k) → (h : Found f n (f k)) → leads k *ℤ value_at n leads constants f (f k) h ≡ constants k *ℤ product_to n leads
+pub value_there : (n : ℕ) (leads constants : ℕ → ℤ) (f : ℕ → ℕ) (k : ℕ) → k < n → ((s : ℕ) → s < n → f s ≡ f k → s ≡ k) → (h : Found f n (f k)) → leads k *ℤ value_at n leads constants f (f k) h ≡ constants k *ℤ product_to n leads
 unfolding value_at Found
 value_there n leads constants f k kl once (inl (s, sl, e)) =
     let c = cofactor n leads s sl in
@@ -72,12 +72,12 @@ value_there n leads constants f k kl once (inl (s, sl, e)) =
     (ring (leads s ∷ constants s ∷ c.0 ∷ []) (x 0 ⊗ (x 1 ⊗ x 2)) (x 1 ⊗ (x 0 ⊗ x 2)) (omega arith) ∙ ap (λ (y : ℤ). constants s *ℤ y) c.1)
 value_there n leads constants f k kl once (inr none) = absurd (none k kl refl)
 
-value_nowhere : (n : ℕ) (leads constants : ℕ → ℤ) (f : ℕ → ℕ) (v : ℕ) → ((k : ℕ) → k < n → f k ≢ v) → (h : Found f n v) → value_at n leads constants f v h ≡ pos 0
+pub value_nowhere : (n : ℕ) (leads constants : ℕ → ℤ) (f : ℕ → ℕ) (v : ℕ) → ((k : ℕ) → k < n → f k ≢ v) → (h : Found f n v) → value_at n leads constants f v h ≡ pos 0
 unfolding value_at Found
 value_nowhere n leads constants f v no_place (inl (k, kl, e)) = absurd (no_place k kl e)
 value_nowhere n leads constants f v no_place (inr none) = refl
 
-owner_once : (p : Program) (d : CostForm) (s k : ℕ) → AreParted p d.basic d.out → s ≤ row_count p → k ≤ row_count p → owner p d.basic s ≡ owner p d.basic k → s ≡ k
+pub owner_once : (p : Program) (d : CostForm) (s k : ℕ) → AreParted p d.basic d.out → s ≤ row_count p → k ≤ row_count p → owner p d.basic s ≡ owner p d.basic k → s ≡ k
 owner_once p d s k parted sl kl e =
     let m : ℕ = row_count p in
     let bl : length d.basic ≡ m = parted.basic_long in
@@ -92,7 +92,7 @@ owner_once p d s k parted sl kl e =
       ]
     ]
 
-owner_apart : (p : Program) (d : CostForm) (k q : ℕ) → AreParted p d.basic d.out → k ≤ row_count p → q < variable_count p → owner p d.basic k ≢ slice_index d.out q
+pub owner_apart : (p : Program) (d : CostForm) (k q : ℕ) → AreParted p d.basic d.out → k ≤ row_count p → q < variable_count p → owner p d.basic k ≢ slice_index d.out q
 owner_apart p d k q parted kl ql e =
     let bl : length d.basic ≡ row_count p = parted.basic_long in
     elim (cases_lt k (row_count p)) [
@@ -117,14 +117,14 @@ multiplier_nowhere n costs f v no_place (inl (k, kl, e)) = absurd (no_place k kl
 multiplier_nowhere n costs f v no_place (inr none) = refl
 
 -- ---- both exist
-record Values (p : Program) (d : CostForm) : Type 0 where
+pub record Values (p : Program) (d : CostForm) : Type 0 where
   pub denominator : ℤ
   pub values : ℕ → ℤ
   pub multipliers : ℕ → ℤ
   pub primal : ArePrimal p d denominator values
   pub dual : AreDual p d multipliers
 
-there : (p : Program) (d : CostForm) → cost.IsDictionary p d → Values p d
+pub there : (p : Program) (d : CostForm) → cost.IsDictionary p d → Values p d
 there p d id =
     let n : ℕ = variable_count p in
     let m : ℕ = row_count p in
@@ -170,7 +170,7 @@ read_value lead constant value denominator num den positive v r =
 nothing_read : (value num den denominator : ℤ) → value ≡ pos 0 → num ≡ pos 0 → value *ℤ den ≡ num *ℤ denominator
 nothing_read value num den denominator v h = ap (λ (y : ℤ). y *ℤ den) v ∙ times_zero den ∙ sym (ap (λ (y : ℤ). y *ℤ denominator) h ∙ times_zero denominator)
 
-are_read : (p : Program) (d : CostForm) → cost.IsDictionary p d → (w : Values p d) → AreRead (with_goal d) w.denominator (entry d (row_count p) 0) w.values w.multipliers
+pub are_read : (p : Program) (d : CostForm) → cost.IsDictionary p d → (w : Values p d) → AreRead (with_goal d) w.denominator (entry d (row_count p) 0) w.values w.multipliers
 are_read p d id w =
     let n : ℕ = variable_count p in
     let m : ℕ = row_count p in

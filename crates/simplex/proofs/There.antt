@@ -2,7 +2,7 @@
 use Rattle.std.proofs.Common.{ℕ, ◌+◌, ◌<◌, ◌≡◌, ℤ, pos, ◌*ℤ◌, ◌<ℤ◌, length, refl, sym, ◌∙◌, inl, inr, arith, int_div, unsigned_abs}
 use Rattle.simplex.specs.declared.Program.{Program}
 use Rattle.simplex.specs.Program.{row_count, variable_count}
-use Rattle.simplex.specs.Reading.{IsLowest, IsPrimal, IsPrice, IsDual, IsOptimum}
+use Rattle.simplex.specs.Reading.{IsLowest, IsPrimal, IsPrice, IsDual, AreRead, KeepsRows, IsOptimum}
 use Rattle.simplex.specs.CostForm.{CostForm, IsDictionary, entry}
 use Rattle.simplex.specs.CostOptimum as inner
 use Rattle.simplex.specs.CostOptimum.{ArePrimal, AreDual}
@@ -11,7 +11,9 @@ use Rattle.simplex.specs.Tableau.{IsStanding}
 use Rattle.simplex.proofs.Divided.{common_positive}
 use Rattle.simplex.proofs.Lowest.{is_lowest, same_fraction}
 use Rattle.simplex.proofs.Narrow.{quotient_exact}
-use Rattle.simplex.proofs.Read.{goal_lead-with_goal, read_optimum}
+use Rattle.simplex.proofs.Read.{Values, there, are_read, goal_lead-with_goal, read_optimum}
+use Rattle.simplex.proofs.Optimum.{IsPoint, point}
+use Rattle.simplex.proofs.Unique.{Determines}
 use Rattle.simplex.proofs.ReadAt.{read_primal, read_nothing, read_price}
 use Rattle.simplex.proofs.Run.{gcd_there}
 use Rattle.simplex.proofs.Standing.{dual_of}
@@ -52,6 +54,23 @@ multipliers_there p d id s i il =
     let price = price_there p d id i il in
     let f = fraction price.0 (entry d (length d.basic) 0) (id.each (length d.basic) (omega arith)).lead in
     (f.0, (f.1.0, dual_of d i price.0 (entry d (length d.basic) 0) f.0 f.1.0 s (omega arith) price.1 (sym (goal_lead-with_goal d)) f.1.1.0 f.1.1.1))
+
+-- the values that are read keep the rows
+pub rows_kept_there : (p : Program) (d : CostForm) → IsDictionary p d → Determines p d.basic → inner.IsFeasible d → KeepsRows p (with_goal d)
+rows_kept_there p d id det feasible =
+    let w : Values p d = there p d id in
+    let ol : length d.out ≡ variable_count p = id.parted.out_long in
+    let at_point : IsPoint p w.denominator w.values = point p d w.denominator w.values id det feasible w.primal in
+    let read : AreRead (with_goal d) w.denominator (entry d (row_count p) 0) w.values w.multipliers = are_read p d id w in
+    record {
+      values_there = values_there p d id;
+      below = w.denominator;
+      x = w.values;
+      positive = w.primal.positive;
+      values = λ i num den il primal. read.values i num den (omega arith) primal;
+      not_negative = λ j jl. at_point.not_negative j (omega arith);
+      rows_kept = at_point.rows_kept;
+    }
 
 pub optimum_there : (p : Program) (d : CostForm) → IsDictionary p d → IsStanding d
     → ((denominator : ℤ) (values multipliers : ℕ → ℤ) → ArePrimal p d denominator values → AreDual p d multipliers → inner.IsOptimum p (entry d (row_count p) 0) denominator values multipliers)

@@ -13,7 +13,7 @@ use Rattle.simplex.specs.Forms.{turned, with_costs, with_goal}
 use Rattle.simplex.proofs.Unique.{by_column}
 
 -- ---- the turned row
-at_shift : (a b : ℤ) (row : List ℤ) (q : ℕ) → at (a ∷ b ∷ row) (q + 2) ≡ at row q
+pub at_shift : (a b : ℤ) (row : List ℤ) (q : ℕ) → at (a ∷ b ∷ row) (q + 2) ≡ at row q
 at_shift a b row q = ap (at (a ∷ b ∷ row)) (let e : q + 2 ≡ suc (suc q) = omega arith in e)
 
 at_nothing : (k : ℕ) → at [] k ≡ pos 0

@@ -1,12 +1,12 @@
 -- The form of dictionaries, runs and ends that the solver works on: the goal row is an ordinary row, the last one, with costs.
 -- The textbook's own words stand in Dictionary and Run, and both forms say the same of a program.
-use Rattle.std.specs.Prelude.{ℕ, zero, suc, ◌+◌, ◌<◌, ◌≤◌, ◌≡◌, ◌≢◌, ℤ, pos, ◌-ℤ◌, ◌*ℤ◌, ◌<ℤ◌, ◌≤ℤ◌, ◌^◌, List, [], length, slice_index_or, slice_index, slice_set, unsigned_abs}
+use Rattle.std.specs.Prelude.{ℕ, zero, suc, ◌+◌, ◌<◌, ◌≤◌, ◌≡◌, ◌≢◌, ℤ, pos, ◌-ℤ◌, ◌*ℤ◌, ◌<ℤ◌, ◌≤ℤ◌, List, [], length, slice_index_or, slice_index, slice_set, unsigned_abs}
 use Rattle.std.specs.List.{range_with_len}
 use Rattle.simplex.specs.declared.Program.{Program}
 use Rattle.simplex.specs.declared.End.{End}
 use Rattle.simplex.specs.declared.End.TheVariants.{Optimal, Spent, Unbounded, Wide}
 pub use Rattle.simplex.specs.Dictionary.{AreCoprime, AreParted}
-use Rattle.simplex.specs.Program.{sum_to, at, row_count, variable_count, cell, limit, gain, IsNarrow, AllNarrow}
+use Rattle.simplex.specs.Program.{sum_to, at, row_count, variable_count, cell, limit, gain, entry_limit, IsNarrow, AllNarrow}
 
 -- Row k < m reads  lead * x_basic = constant - sum of coefficient * x_out.
 -- Row m is the goal's: lead * z = constant - sum of cost * x_out, where a cost is minus a goal coefficient.
@@ -109,7 +109,7 @@ Stands p (suc made) new = (d : CostForm) × Stands p made d × Pivot p d new
 pub record IsWideAt (new : CostForm) (row column : ℕ) : Type 0 where
   pub row_inside : row < length new.rows
   pub column_inside : column < length (row_of new row)
-  pub wide : 2 ^ 62 ≤ unsigned_abs (entry new row column)
+  pub wide : entry_limit ≤ unsigned_abs (entry new row column)
   pub rows_before : (k : ℕ) → k < row → AllNarrow (row_of new k)
   pub columns_before : (j : ℕ) → j < column → IsNarrow (entry new row j)
 

@@ -32,6 +32,16 @@ pub record AreRead (d : Dictionary) (below_x below_y : ℤ) (x y : ℕ → ℤ) 
   pub values : (i : ℕ) (num den : ℤ) → i < length d.out → IsPrimal d i num den → x i *ℤ den ≡ num *ℤ below_x
   pub multipliers : (i : ℕ) (num den : ℤ) → i < length d.basic → IsDual d i num den → y i *ℤ den ≡ num *ℤ below_y
 
+-- the values that are read exist, are not negative and keep the rows
+pub record KeepsRows (p : Program) (d : Dictionary) : Type 0 where
+  pub values_there : (i : ℕ) → i < variable_count p → (num : ℤ) × ((den : ℤ) × IsPrimal d i num den)
+  pub below : ℤ
+  pub x : ℕ → ℤ
+  pub positive : pos 0 <ℤ below
+  pub values : (i : ℕ) (num den : ℤ) → i < variable_count p → IsPrimal d i num den → x i *ℤ den ≡ num *ℤ below
+  pub not_negative : (j : ℕ) → j < variable_count p → pos 0 ≤ℤ (x j)
+  pub rows_kept : (i : ℕ) → i < row_count p → sum_to (variable_count p) (λ j. cell p i j *ℤ x j) ≤ℤ (limit p i *ℤ below)
+
 -- what is read exists, satisfies the program and its dual, and both have one value
 pub record IsOptimum (p : Program) (d : Dictionary) : Type 0 where
   pub values_there : (i : ℕ) → i < variable_count p → (num : ℤ) × ((den : ℤ) × IsPrimal d i num den)

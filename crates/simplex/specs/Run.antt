@@ -1,10 +1,10 @@
 -- The textbook run of a program: from the slack basis, a pivot at a time by Bland's rule, to one of four ends.
-use Rattle.std.specs.Prelude.{ℕ, ◌+◌, ◌<◌, ◌≤◌, ◌≡◌, ◌^◌, ◌++◌, ◌∷◌, [], ℤ, pos, ◌*ℤ◌, ◌≤ℤ◌, ◌<ℤ◌, List, length, slice_index, slice_index_or, slice_set, unsigned_abs}
+use Rattle.std.specs.Prelude.{ℕ, ◌+◌, ◌<◌, ◌≤◌, ◌≡◌, ◌++◌, ◌∷◌, [], ℤ, pos, ◌*ℤ◌, ◌≤ℤ◌, ◌<ℤ◌, List, length, slice_index, slice_index_or, slice_set, unsigned_abs}
 use Rattle.std.specs.List.{range_with_len}
 use Rattle.simplex.specs.declared.Program.{Program}
 use Rattle.simplex.specs.declared.End.{End}
 use Rattle.simplex.specs.declared.End.TheVariants.{Optimal, Spent, Unbounded, Wide}
-use Rattle.simplex.specs.Program.{at, row_count, variable_count, IsNarrow, AllNarrow}
+use Rattle.simplex.specs.Program.{at, row_count, variable_count, entry_limit, IsNarrow, AllNarrow}
 use Rattle.simplex.specs.Dictionary.{Dictionary, number, IsDictionary, IsNarrowDictionary}
 
 -- ---- Bland's rule
@@ -68,7 +68,7 @@ all_rows d = d.rows ++ d.goal ∷ []
 pub record IsWideAt (rows : List (List ℤ)) (row column : ℕ) : Type 0 where
   pub row_inside : row < length rows
   pub column_inside : column < length (slice_index_or rows row [])
-  pub wide : 2 ^ 62 ≤ unsigned_abs (at (slice_index_or rows row []) column)
+  pub wide : entry_limit ≤ unsigned_abs (at (slice_index_or rows row []) column)
   pub rows_before : (k : ℕ) → k < row → AllNarrow (slice_index_or rows k [])
   pub columns_before : (j : ℕ) → j < column → IsNarrow (at (slice_index_or rows row []) j)
 

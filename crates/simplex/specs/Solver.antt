@@ -1,5 +1,5 @@
 -- What a caller sees of a solver: the size of its reserve, and the dictionary that the last run stopped at.
-use Rattle.std.specs.Prelude.{ℕ, ◌≤◌, List, [], Option, Some, None}
+use Rattle.std.specs.Prelude.{ℕ, ◌≡◌, ◌≤◌, List, [], Option, Some, None}
 use Rattle.simplex.specs.Dictionary.{Dictionary}
 
 pub record State : Type 0 where
@@ -8,6 +8,10 @@ pub record State : Type 0 where
   pub most_variables : ℕ
   -- none before the first run, and none from a reserve that answered Ok until the next run
   pub last : Option Dictionary
+
+-- just after a reserve of so many rows and variables
+abbrev pub IsReservedFor : State → ℕ → ℕ → Type 0
+IsReservedFor s rows variables = s ≡ record { most_rows = rows; most_variables = variables; last = None }
 
 -- a program of so many rows and variables can be run
 pub record HasRoomFor (s : State) (rows variables : ℕ) : Type 0 where

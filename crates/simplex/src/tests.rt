@@ -1,3 +1,5 @@
+//! Worked programs: how each run ends, and what is read from it.
+
 ghost use Rattle.std.specs.Prelude.{◌≡◌, ℕ, pos, ◌<◌, ◌≤◌, ◌^◌, ◌≤ℤ◌, IsTrue, length, IsSome, IfSome};
 ghost use Rattle.simplex.specs.Program.{at, AllNarrow, IsProgram};
 ghost use Rattle.simplex.specs.Tableau.{list_at};

@@ -4,10 +4,11 @@ use Rattle.simplex.specs.Program.{row_count, variable_count}
 use Rattle.simplex.specs.CostForm.{IsDictionary}
 use Rattle.simplex.specs.Tableau.{cost_form_of, IsStanding}
 use Rattle.simplex.specs.Solver.{State}
-use Rattle.simplex.proofs.Unique.{Stands-dictionary}
+use Rattle.simplex.proofs.Unique.{Stands-dictionary, Stands-determines}
 use Rattle.simplex.proofs.Run.{shaped}
-use Rattle.simplex.proofs.BothRuns.{run_ends_from}
-use Rattle.simplex.proofs.There.{optimum_there}
+use Rattle.simplex.proofs.BothRuns.{run_ends_from, dictionary_from, narrow_with_goal, feasible_with_goal}
+use Rattle.simplex.proofs.There.{optimum_there, rows_kept_there}
+use Rattle.simplex.proofs.EachDictionary.{Stands-feasible}
 use Rattle.simplex.proofs.solver.Solver.run.Goals as goal
 
 dictionary : (c : goal.After-run) → IsDictionary c.args.program.now (cost_form_of c.run.new.self)
@@ -54,3 +55,16 @@ returns-clause-places c = (dictionary c).parted.basic_long
 
 pub returns-clause-out_places : goal.returns-clause-out_places
 returns-clause-out_places c = (dictionary c).parted.out_long
+
+pub returns-clause-dictionary : goal.returns-clause-dictionary
+returns-clause-dictionary c = dictionary_from c.args.program.now (cost_form_of c.run.new.self) (dictionary c)
+
+pub returns-clause-narrow : goal.returns-clause-narrow
+returns-clause-narrow c = narrow_with_goal c.args.program.now (cost_form_of c.run.new.self) (dictionary c) c.run.ensures.narrow
+
+pub returns-clause-feasible : goal.returns-clause-feasible
+returns-clause-feasible c = feasible_with_goal (cost_form_of c.run.new.self) (Stands-feasible _ _ _ c.requires.program c.run.ensures.run.stands)
+
+pub returns-clause-rows_kept : goal.returns-clause-rows_kept
+returns-clause-rows_kept c =
+    rows_kept_there c.args.program.now (cost_form_of c.run.new.self) (dictionary c) (Stands-determines _ _ _ c.run.ensures.run.stands) (Stands-feasible _ _ _ c.requires.program c.run.ensures.run.stands)

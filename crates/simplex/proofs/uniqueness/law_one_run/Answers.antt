@@ -1,5 +1,0 @@
-use Rattle.simplex.proofs.Laws.{one_dictionary, one_end, one_run}
-use Rattle.simplex.proofs.uniqueness.law_one_run.Goals as goal
-
-pub returns : goal.returns
-returns c = record { dictionary = one_dictionary; run = one_run; end = one_end }
