@@ -19,7 +19,14 @@ use Rattle.simplex.proofs.Optimum.{not_negative_product}
 use Rattle.scaled_num.proofs.Products.{mulℤ_comm}
 use Rattle.simplex.proofs.Combine.{sum_zero}
 use Rattle.simplex.proofs.Unique.{factor}
-use Rattle.simplex.specs.Program.{at, sum_to}
+use Rattle.simplex.proofs.AlongRuns.{unbounded_has_direction}
+use Rattle.simplex.specs.Dictionary.{Dictionary}
+use Rattle.simplex.specs.Laws.{HasDirection}
+use Rattle.simplex.specs.Program.{at, program_data, sum_to}
+use Rattle.simplex.specs.Run.{RunEnds}
+use Rattle.simplex.specs.declared.End.{End}
+use Rattle.simplex.specs.declared.End.TheVariants.{Unbounded}
+use Rattle.simplex.specs.declared.Program.{Program}
 use Rattle.point_set.specs.Corners.{IsCurrentCorner, point_at}
 use Rattle.point_set.specs.Points.{PointData}
 use Rattle.stage_game.specs.Asked.{AreUpperEnds}
@@ -384,3 +391,23 @@ upper-bounded g belief points candidates bits some ends =
           (each-of-map P (λ k. point_row g bits (point_at points k) a o) candidates (pair-rows P g after a o inside.0 inside.1 (each-back P worth pairs all))) found.1),
       corner-row g bits (point_at points corner) a o t (point-sure points t corner (ends.current t inside.2)),
     ))
+
+-- ---- so no run ends unbounded
+rise-of-direction : (p : Program) → HasDirection p → HasRise (program_data p)
+rise-of-direction p h = record { x = h.x; not_negative = h.not_negative; rows_kept = h.rows_kept; goal_rises = h.goal_rises }
+
+not-unbounded : (p : Program) (data_of : ProgramData) (pivots : ℕ) (d : Dictionary) (end : End) → program_data p ≡ data_of → (HasRise data_of → ⊥) → RunEnds p pivots d end
+    → (col : ℕ) → end ≡ Unbounded col → ⊥
+not-unbounded p data_of pivots d end written none run col e =
+    none (subst HasRise written (rise-of-direction p (unbounded_has_direction p pivots d col (subst (RunEnds p pivots d) e run))))
+
+pub lower-not-unbounded : (g : GameData) (belief : List ℤ) (nodes : List NodeData) (candidates : List ℕ) (bits : ℕ) (p : Program) (pivots : ℕ) (d : Dictionary) (end : End)
+    → 0 < g.shape.informed_actions → program_data p ≡ lower_program g belief nodes candidates bits → RunEnds p pivots d end → (col : ℕ) → end ≡ Unbounded col → ⊥
+lower-not-unbounded g belief nodes candidates bits p pivots d end some written run =
+    not-unbounded p (lower_program g belief nodes candidates bits) pivots d end written (lower-bounded g belief nodes candidates bits some) run
+
+pub upper-not-unbounded : (g : GameData) (belief : List ℤ) (points : List PointData) (candidates : List ℕ) (bits : ℕ) (p : Program) (pivots : ℕ) (d : Dictionary) (end : End)
+    → 0 < g.shape.informed_actions → AreUpperEnds g points candidates → program_data p ≡ upper_program g belief points candidates bits → RunEnds p pivots d end
+    → (col : ℕ) → end ≡ Unbounded col → ⊥
+upper-not-unbounded g belief points candidates bits p pivots d end some ends written run =
+    not-unbounded p (upper_program g belief points candidates bits) pivots d end written (upper-bounded g belief points candidates bits some ends) run

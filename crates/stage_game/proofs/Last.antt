@@ -7,11 +7,17 @@ use Rattle.std.proofs.lemmas.Int.{ints, unsigned_abs-mul}
 use Rattle.std.proofs.Math.Nat.{dvd-mul_right, le_of_dvd}
 use Rattle.scaled_num.proofs.Products.{mulℤ_comm}
 use Rattle.simplex.proofs.Unique.{divisor, factor}
+use Rattle.simplex.proofs.AlongRuns.{stays_feasible, stays_narrow}
+use Rattle.simplex.proofs.BothRuns.{run_dictionary}
 use Rattle.simplex.proofs.Optimum.{not_negative_factor, not_negative_product}
-use Rattle.simplex.specs.Program.{at, row_count, variable_count}
+use Rattle.simplex.specs.Program.{IsProgram, at, row_count, variable_count}
+use Rattle.simplex.specs.Run.{RunEnds}
+use Rattle.simplex.specs.Solver.{State}
+use Rattle.simplex.specs.declared.End.{End}
+use Rattle.simplex.specs.declared.Program.{Program}
 use Rattle.simplex.specs.Dictionary.{AreCoprime, Dictionary, IsDictionary, number}
 use Rattle.simplex.specs.Reading.{IsLowest, IsPrice, IsPrimal}
-use Rattle.stage_game.specs.Reading.{IsReadable, no_dictionary}
+use Rattle.stage_game.specs.Reading.{CanBeRead, IsReadable, last_of, no_dictionary}
 
 -- ---- a fact of the last dictionary, and the same as a fact of an option
 pub at-last : (o : Option Dictionary) (P : Dictionary → Type 0) → IsSome o → IfSome o P → P (unwrap_or o no_dictionary)
@@ -87,3 +93,21 @@ value-read d i num den readable inside primal =
           (primal.basic k (omega arith) e)
       | inr (q, ql, e) ↦ none-read num den primal.lowest.positive (primal.out q (omega arith) e)
     ]
+
+-- ---- the last dictionary of a run
+pub run-readable : (p : Program) (d : Dictionary) (pivots : ℕ) (end : End) → IsProgram p → RunEnds p pivots d end → IsReadable d
+run-readable p d pivots end serves run = record {
+  program = p;
+  dictionary = run_dictionary p d run.before run.run;
+  narrow = stays_narrow p d run.before serves run.run;
+  feasible = stays_feasible p d run.before serves run.run;
+}
+
+pub readable-out : (p : Program) (d : Dictionary) (pivots : ℕ) (end : End) → RunEnds p pivots d end → length d.out ≡ variable_count p
+readable-out p d pivots end run = (run_dictionary p d run.before run.run).parted.out_long
+
+pub readable-basic : (p : Program) (d : Dictionary) (pivots : ℕ) (end : End) → RunEnds p pivots d end → length d.basic ≡ row_count p
+readable-basic p d pivots end run = (run_dictionary p d run.before run.run).parted.basic_long
+
+pub can-be-read : (p : Program) (s : State) (pivots : ℕ) (end : End) → IsProgram p → IsSome s.last → IfSome s.last (λ d. RunEnds p pivots d end) → CanBeRead s
+can-be-read p s pivots end serves some run = record { some = some; readable = run-readable p (last_of s) pivots end serves (at-last s.last (λ d. RunEnds p pivots d end) some run) }

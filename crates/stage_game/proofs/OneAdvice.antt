@@ -12,10 +12,9 @@ use Rattle.belief.specs.Mixes.{MixesData}
 use Rattle.game_model.specs.Branches.{Branch, mix_total}
 use Rattle.game_model.specs.Game.{GameData, IsWithin}
 use Rattle.point_set.specs.Points.{PointData}
-use Rattle.simplex.proofs.EachDictionary.{of_its_program, stays_feasible, stays_narrow}
-use Rattle.simplex.proofs.Laws.{one_end}
+use Rattle.simplex.proofs.AlongRuns.{one_end}
 use Rattle.simplex.proofs.OneReading.{one_price, one_primal}
-use Rattle.simplex.proofs.SameNumbers.{same_end}
+use Rattle.simplex.proofs.SameNumbers.{end_same}
 use Rattle.simplex.specs.Dictionary.{Dictionary, IsDictionary}
 use Rattle.simplex.specs.Program.{IsProgram, program_data, row_count, variable_count}
 use Rattle.simplex.specs.Run.{RunEnds}
@@ -23,10 +22,13 @@ use Rattle.simplex.specs.declared.End.{End}
 use Rattle.simplex.specs.declared.Program.{Program}
 use Rattle.stage_game.specs.Advice.{AreInformedRead, AreStepsAfter, AreStepsRead, AreWantedAfter, AreWantedRead, IsLowerAdvice, IsMixRead, IsOwnRead, IsUpperAdvice, most_pivots}
 use Rattle.stage_game.specs.AdviceData.{LowerAdviceData, UpperAdviceData, first_going_on, first_point_row, has_weight, listed}
+use Rattle.stage_game.specs.Asked.{lower_rows, lower_variables, upper_rows, upper_variables}
 use Rattle.stage_game.specs.Masses.{over_pairs}
 use Rattle.stage_game.specs.Reading.{AreCountedPrices, ArePriceWeights, ArePrimalWeights, IsCountedPrice, IsLeastShift, IsPrimalWeight, IsReadable, not_negative, shifted, weight_end}
 use Rattle.stage_game.proofs.Families.{flat_map-below}
 use Rattle.stage_game.proofs.LowerFitting.{block-inside}
+use Rattle.stage_game.proofs.Last.{readable-basic, readable-out, run-readable}
+use Rattle.stage_game.proofs.Sizes.{lower-rows, lower-variables, upper-rows, upper-variables}
 use Rattle.stage_game.proofs.ReadWeights.{prices-low, primal-low}
 
 -- ---- weights are one
@@ -118,3 +120,52 @@ wanted-one g candidates d wanted other readable inside p q =
         let count : ℕ = length candidates in
         let within : first_point_row g count a o + count ≤ length d.basic = omega (arith, block-inside a o g.shape.own_actions g.shape.observations count la lo) in
         r.same ∙ ap (λ (weights : List ℤ). listed a o candidates weights) (price-weights-one d (first_point_row g count a o) count r.weights s.weights readable within r.read s.read) ∙ sym s.same
+
+-- ---- advice is one
+-- the last dictionary and the end of runs of programs with the same numbers
+same-last : (p q : Program) (d e : Dictionary) (end other : End) → program_data p ≡ program_data q → RunEnds p most_pivots d end → RunEnds q most_pivots e other → (end ≡ other) × (d ≡ e)
+same-last p q d e end other same run second =
+    let moved : RunEnds q most_pivots d end = end_same p q most_pivots d end same run in
+    let one = one_end q most_pivots d e end other moved second in
+    (one.0, let all : d ∷ moved.before ≡ e ∷ second.before = one.1 in cc)
+
+pub lower-one : (g : GameData) (belief : List ℤ) (nodes : List NodeData) (candidates : List ℕ) (bits : ℕ) (advice other : LowerAdviceData)
+    → IsLowerAdvice g belief nodes candidates bits advice → IsLowerAdvice g belief nodes candidates bits other → advice ≡ other
+lower-one g belief nodes candidates bits advice other p q =
+    let last = same-last p.program q.program p.last q.last advice.end other.end (p.written ∙ sym q.written) p.run q.run in
+    let readable : IsReadable q.last = run-readable q.program q.last most_pivots other.end q.serves q.run in
+    let out_long : length q.last.out ≡ variable_count q.program = readable-out q.program q.last most_pivots other.end q.run in
+    let basic_long : length q.last.basic ≡ row_count q.program = readable-basic q.program q.last most_pivots other.end q.run in
+    let variables : variable_count q.program ≡ lower_variables g (length candidates) = lower-variables q.program g belief nodes candidates bits q.written in
+    let rows : row_count q.program ≡ lower_rows g = lower-rows q.program g belief nodes candidates bits q.written in
+    let own : advice.own ≡ other.own =
+    own-one g q.last advice.own other.own readable (omega arith) (subst (λ (d : Dictionary). IsOwnRead g d advice.own) last.1 p.own) q.own in
+    let next : advice.next ≡ other.next =
+    steps-one g candidates q.last other.own advice.next other.next readable (omega arith)
+    (subst (λ (own : List ℤ). AreStepsRead g candidates q.last own advice.next) own (subst (λ (d : Dictionary). AreStepsRead g candidates d advice.own advice.next) last.1 p.next)) q.next in
+    let informed : advice.informed ≡ other.informed =
+    informed-one g q.last advice.informed other.informed readable (omega arith) (subst (λ (d : Dictionary). AreInformedRead g d advice.informed) last.1 p.informed) q.informed in
+    same-advice advice other own next informed last.0
+  where
+    same-advice : (advice other : LowerAdviceData) → advice.own ≡ other.own → advice.next ≡ other.next → advice.informed ≡ other.informed → advice.end ≡ other.end → advice ≡ other
+    same-advice advice other a b c d = cc
+
+pub upper-one : (g : GameData) (belief : List ℤ) (points : List PointData) (candidates : List ℕ) (bits : ℕ) (advice other : UpperAdviceData)
+    → IsUpperAdvice g belief points candidates bits advice → IsUpperAdvice g belief points candidates bits other → advice ≡ other
+upper-one g belief points candidates bits advice other p q =
+    let last = same-last p.program q.program p.last q.last advice.end other.end (p.written ∙ sym q.written) p.run q.run in
+    let readable : IsReadable q.last = run-readable q.program q.last most_pivots other.end q.serves q.run in
+    let out_long : length q.last.out ≡ variable_count q.program = readable-out q.program q.last most_pivots other.end q.run in
+    let basic_long : length q.last.basic ≡ row_count q.program = readable-basic q.program q.last most_pivots other.end q.run in
+    let variables : variable_count q.program ≡ upper_variables g = upper-variables q.program g belief points candidates bits q.written in
+    let rows : row_count q.program ≡ upper_rows g (length candidates) = upper-rows q.program g belief points candidates bits q.written in
+    let own : advice.own ≡ other.own =
+    own-one g q.last advice.own other.own readable (omega arith) (subst (λ (d : Dictionary). IsOwnRead g d advice.own) last.1 p.own) q.own in
+    let wanted : advice.wanted ≡ other.wanted =
+    wanted-one g candidates q.last advice.wanted other.wanted readable (omega arith) (subst (λ (d : Dictionary). AreWantedRead g candidates d advice.wanted) last.1 p.wanted) q.wanted in
+    let informed : advice.informed ≡ other.informed =
+    informed-one g q.last advice.informed other.informed readable (omega arith) (subst (λ (d : Dictionary). AreInformedRead g d advice.informed) last.1 p.informed) q.informed in
+    same-advice advice other own wanted informed last.0
+  where
+    same-advice : (advice other : UpperAdviceData) → advice.own ≡ other.own → advice.wanted ≡ other.wanted → advice.informed ≡ other.informed → advice.end ≡ other.end → advice ≡ other
+    same-advice advice other a b c d = cc
