@@ -133,17 +133,17 @@ one-none x e = omega (arith, ints)
 
 -- the own actions are 0, by the row of the mix
 plays-none : (vars : List Variable) (x : ℕ → ℤ) → ((j : ℕ) → j < length vars → pos 0 ≤ℤ x j) → Rises vars x mix_row → AreNone vars x IsPlay
-plays-none vars x low rises j l = at (get_or vars j no-variable) (row-none vars x mix_row rises (λ j l. not_negative_product (mix_row (get_or vars j no-variable)) (x j) (mix-low (get_or vars j no-variable)) (low j l)) j l)
+plays-none vars x low rises j l = here (get_or vars j no-variable) (row-none vars x mix_row rises (λ j l. not_negative_product (mix_row (get_or vars j no-variable)) (x j) (mix-low (get_or vars j no-variable)) (low j l)) j l)
   where
     mix-low : (v : Variable) → pos 0 ≤ℤ mix_row v
     mix-low (WorthOf s) = omega (arith, ints)
     mix-low (Plays a) = omega (arith, ints)
     mix-low (GoesOn a o k) = omega (arith, ints)
 
-    at : (v : Variable) → mix_row v *ℤ x j ≡ pos 0 → IsPlay v → x j ≡ pos 0
-    at (WorthOf s) e p = absurd p
-    at (Plays a) e p = one-none (x j) e
-    at (GoesOn a o k) e p = absurd p
+    here : (v : Variable) → mix_row v *ℤ x j ≡ pos 0 → IsPlay v → x j ≡ pos 0
+    here (WorthOf s) e p = absurd p
+    here (Plays a) e p = one-none (x j) e
+    here (GoesOn a o k) e p = absurd p
 
 -- a row of going on: nothing at the worths, nothing negative where play goes on, and something at one place
 pub record IsGoingRow (row : Variable → ℤ) (a o k : ℕ) : Type 0 where
@@ -166,7 +166,7 @@ going-none : (vars : List Variable) (x : ℕ → ℤ) (Of : ℕ → ℕ → ℕ 
     → ((j a o k : ℕ) → j < length vars → get_or vars j no-variable ≡ GoesOn a o k → Of a o k)
     → ((a o k : ℕ) → Of a o k → (row : Variable → ℤ) × Rises vars x row × IsGoingRow row a o k)
     → AreNone vars x IsGoing
-going-none vars x Of low plays of rows j l = at (get_or vars j no-variable) refl
+going-none vars x Of low plays of rows j l = here (get_or vars j no-variable) refl
   where
     low-in : (row : Variable → ℤ) → ((s : ℕ) → row (WorthOf s) ≡ pos 0) → ((b p q : ℕ) → pos 0 ≤ℤ row (GoesOn b p q)) → (j : ℕ) → j < length vars
         → (v : Variable) → get_or vars j no-variable ≡ v → pos 0 ≤ℤ (row v *ℤ x j)
@@ -174,10 +174,10 @@ going-none vars x Of low plays of rows j l = at (get_or vars j no-variable) refl
     low-in row worth going j l (Plays a) e = at-none (row (Plays a)) (x j) (plays j l (subst IsPlay (sym e) tt))
     low-in row worth going j l (GoesOn b p q) e = not_negative_product (row (GoesOn b p q)) (x j) (going b p q) (low j l)
 
-    at : (v : Variable) → get_or vars j no-variable ≡ v → IsGoing v → x j ≡ pos 0
-    at (WorthOf s) e p = absurd p
-    at (Plays a) e p = absurd p
-    at (GoesOn a o k) e p =
+    here : (v : Variable) → get_or vars j no-variable ≡ v → IsGoing v → x j ≡ pos 0
+    here (WorthOf s) e p = absurd p
+    here (Plays a) e p = absurd p
+    here (GoesOn a o k) e p =
         let found = rows a o k (of j a o k l e) in
         let row = found.0 in
         other-none (row (GoesOn a o k)) (x j) found.2.own
@@ -194,22 +194,22 @@ all-none : (vars : List Variable) (x : ℕ → ℤ) (Of : ℕ → Type 0) → ((
     → ((j s : ℕ) → j < length vars → get_or vars j no-variable ≡ WorthOf s → Of s)
     → ((s : ℕ) → Of s → (row : Variable → ℤ) × Rises vars x row × IsWorthRow row s)
     → (j : ℕ) → j < length vars → x j ≡ pos 0
-all-none vars x Of low plays goings of rows j l = at (get_or vars j no-variable) refl
+all-none vars x Of low plays goings of rows j l = here (get_or vars j no-variable) refl
   where
     low-in : (row : Variable → ℤ) → ((t : ℕ) → pos 0 ≤ℤ row (WorthOf t)) → (j : ℕ) → j < length vars → (v : Variable) → get_or vars j no-variable ≡ v → pos 0 ≤ℤ (row v *ℤ x j)
     low-in row worth j l (WorthOf t) e = not_negative_product (row (WorthOf t)) (x j) (worth t) (low j l)
     low-in row worth j l (Plays a) e = at-none (row (Plays a)) (x j) (plays j l (subst IsPlay (sym e) tt))
     low-in row worth j l (GoesOn b p q) e = at-none (row (GoesOn b p q)) (x j) (goings j l (subst IsGoing (sym e) tt))
 
-    at : (v : Variable) → get_or vars j no-variable ≡ v → x j ≡ pos 0
-    at (WorthOf s) e =
+    here : (v : Variable) → get_or vars j no-variable ≡ v → x j ≡ pos 0
+    here (WorthOf s) e =
         let found = rows s (of j s l e) in
         let row = found.0 in
         other-none (row (WorthOf s)) (x j) found.2.own
         (subst (λ (v : Variable). row v *ℤ x j ≡ pos 0) e
         (row-none vars x row found.1 (λ j l. low-in row found.2.worth j l (get_or vars j no-variable) refl) j l))
-    at (Plays a) e = plays j l (subst IsPlay (sym e) tt)
-    at (GoesOn a o k) e = goings j l (subst IsGoing (sym e) tt)
+    here (Plays a) e = plays j l (subst IsPlay (sym e) tt)
+    here (GoesOn a o k) e = goings j l (subst IsGoing (sym e) tt)
 
 -- ---- a stage program has no rise
 -- each row of a rise of a stage program

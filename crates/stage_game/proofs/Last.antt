@@ -44,11 +44,15 @@ divides-other a b c coprime h =
 coprime-parts : (num den : ℤ) → AreCoprime (num ∷ den ∷ []) → (d : ℕ) → d ∣ unsigned_abs num → d ∣ unsigned_abs den → d ≡ 1
 coprime-parts num den h d p q = h d (λ k l. two-cases k (λ (i : ℕ). d ∣ unsigned_abs (at (num ∷ den ∷ []) i)) l p q)
 
+product-some : (a l : ℕ) → (a ≡ 0 → ⊥) → 0 < l → 0 < a * l
+product-some zero l ne positive = absurd (ne refl)
+product-some (suc a) l ne positive = omega arith
+
 -- a fraction in lowest terms that equals c over l has at most the magnitude of c above
 lowest-above : (a b c l most : ℕ) → 0 < l → a * l ≡ c * b → ((d : ℕ) → d ∣ a → d ∣ b → d ≡ 1) → c < most → a < most
 lowest-above a b zero l most positive e coprime small =
     let none : a * l ≡ 0 = e ∙ omega arith in
-    elim (cases_eq a 0) [ inl z ↦ omega arith | inr ne ↦ absurd (let some : 0 < a * l = grind arith in omega arith) ]
+    elim (cases_eq a 0) [ inl z ↦ omega arith | inr ne ↦ absurd (let some : 0 < a * l = product-some a l ne positive in omega arith) ]
 lowest-above a b (suc c) l most positive e coprime small =
     let divides : a ∣ b * suc c = subst (λ (k : ℕ). a ∣ k) (e ∙ omega arith) (dvd-mul_right a l) in
     let most_c : a ≤ suc c = le_of_dvd (omega arith) (divides-other a b (suc c) coprime divides) in

@@ -15,11 +15,11 @@ use Rattle.game_model.specs.Game.{GameData, IsWithin, numbers}
 use Rattle.simplex.specs.Dictionary.{Dictionary}
 use Rattle.stage_game.specs.Advice.{AreInformedRead, AreStepsAfter, AreStepsRead, IsOwnRead}
 use Rattle.stage_game.specs.AdviceData.{LowerAdviceData, first_going_on, has_weight, listed, listed_one}
-use Rattle.stage_game.specs.Asked.{AreNamed}
+use Rattle.stage_game.specs.Asked.{AreNamed, lower_variables}
 use Rattle.stage_game.specs.Fits.{LowerFits}
 use Rattle.stage_game.specs.Masses.{over_pairs}
 use Rattle.stage_game.specs.Reading.{IsReadable}
-use Rattle.stage_game.proofs.Placed.{AllBefore, ArePlaced, IsAt, before-filter, branches-of-pair, each-passed, each-weaker, listed-at, listed-before, map-each, over-pairs-each, over-pairs-rising}
+use Rattle.stage_game.proofs.Placed.{AllBefore, ArePlaced, IsAt, before-filter, branches-of-pair, each-filter, each-weaker, listed-at, listed-before, map-each, over-pairs-each, over-pairs-rising}
 use Rattle.stage_game.proofs.ReadWeights.{own-mix, primal-low}
 use Rattle.stage_game.proofs.SharedTotals.{ArePartsOf, parts-within, shared-parts}
 use Rattle.stage_game.proofs.StateMixes.{informed-fit}
@@ -31,25 +31,27 @@ no-weight b e = let none : unsigned_abs b.weight ≤ 0 = ltb-false 0 (unsigned_a
 some-weight : (b : Branch) → has_weight b ≡ true → pos 0 ≤ℤ b.weight → pos 1 ≤ℤ b.weight
 some-weight b e low = let some : 0 < unsigned_abs b.weight = ltb-true 0 (unsigned_abs b.weight) e in omega (arith, ints)
 
+nothing-more : (x y : ℤ) → x ≡ pos 0 → y ≡ x +ℤ y
+nothing-more x y e = omega (arith, ints)
+
+weight-kept : (t : Bool) (b : Branch) (steps : List Branch) → has_weight b ≡ t → total (λ b. b.weight) (filter has_weight steps) ≡ total (λ b. b.weight) steps
+    → total (λ b. b.weight) (cond t (b ∷ filter has_weight steps) (filter has_weight steps)) ≡ b.weight +ℤ total (λ b. b.weight) steps
+weight-kept true b steps e rest = ap (λ z. b.weight +ℤ z) rest
+weight-kept false b steps e rest = rest ∙ nothing-more b.weight (total (λ b. b.weight) steps) (no-weight b e)
+
 weights-passed : (steps : List Branch) → total (λ b. b.weight) (filter has_weight steps) ≡ total (λ b. b.weight) steps
 weights-passed [] = refl
-weights-passed (b ∷ steps) = step (has_weight b) refl
-  where
-    step : (t : Bool) → has_weight b ≡ t → total (λ b. b.weight) (cond t (b ∷ filter has_weight steps) (filter has_weight steps)) ≡ b.weight +ℤ total (λ b. b.weight) steps
-    step true e = ap (λ z. b.weight +ℤ z) (weights-passed steps)
-    step false e = weights-passed steps ∙ nothing-more b.weight (total (λ b. b.weight) steps) (no-weight b e)
-      where
-        nothing-more : (x y : ℤ) → x ≡ pos 0 → y ≡ x +ℤ y
-        nothing-more x y e = omega (arith, ints)
+weights-passed (b ∷ steps) = weight-kept (has_weight b) b steps refl (weights-passed steps)
 
 -- what passes has a weight of at least 1
+passed-kept : (P : Branch → Type 0) (Q : Branch → Type 0) → ((b : Branch) → has_weight b ≡ true → P b → Q b) → (t : Bool) (b : Branch) (steps : List Branch) → has_weight b ≡ t → P b → AllByRecursion Q (filter has_weight steps)
+    → AllByRecursion Q (cond t (b ∷ filter has_weight steps) (filter has_weight steps))
+passed-kept P Q h true b steps e p rest = (h b e p, rest)
+passed-kept P Q h false b steps e p rest = rest
+
 passed-each : (P : Branch → Type 0) (Q : Branch → Type 0) → ((b : Branch) → has_weight b ≡ true → P b → Q b) → (steps : List Branch) → AllByRecursion P steps → AllByRecursion Q (filter has_weight steps)
 passed-each P Q h [] p = tt
-passed-each P Q h (b ∷ steps) p = step (has_weight b) refl
-  where
-    step : (t : Bool) → has_weight b ≡ t → AllByRecursion Q (cond t (b ∷ filter has_weight steps) (filter has_weight steps))
-    step true e = (h b e p.0, passed-each P Q h steps p.1)
-    step false e = passed-each P Q h steps p.1
+passed-each P Q h (b ∷ steps) p = passed-kept P Q h (has_weight b) b steps refl p.0 (passed-each P Q h steps p.1)
 
 -- a place of an own action and an observation is inside
 pub block-inside : (a o actions observations count : ℕ) → a < actions → o < observations → (a * observations + o) * count + count ≤ actions * observations * count
@@ -79,7 +81,7 @@ listed-each g nodes a o candidates shares named la lo long within =
     (λ i l. record {
       own = la;
       seen = lo;
-      member = each-at (λ k. k < nodes) 0 candidates i named l;
+      member = each-at (λ k. k < nodes) 0 candidates i named (omega arith);
       weight = each-at (IsWithin (pos 0) (pos mix_total)) (pos 0) shares i within (omega arith);
     })
 
@@ -90,7 +92,7 @@ listed-sum a o candidates shares long =
     ∙ total-places (λ x. x) (pos 0) shares
 
 steps-fitting : (g : GameData) (nodes : ℕ) (candidates : List ℕ) (d : Dictionary) (own : List ℤ) (a o : ℕ) (steps : List Branch)
-    → IsReadable d → first_going_on g (length candidates) g.shape.own_actions 0 ≤ length d.out → 1 ≤ length candidates → AreNamed nodes candidates
+    → IsReadable d → lower_variables g (length candidates) ≤ length d.out → 1 ≤ length candidates → AreNamed nodes candidates
     → IsMix g.shape.own_actions own → a < g.shape.own_actions → o < g.shape.observations → AreStepsAfter g candidates d own a o steps
     → AreFitting g nodes a o (at own a) steps
 steps-fitting g nodes candidates d own a o steps readable inside some named mix la lo read =
@@ -110,11 +112,11 @@ steps-fitting g nodes candidates d own a o steps readable inside some named mix 
           all (listed-each g nodes a o candidates read.shares named.inside la lo long within);
       sums = weights-passed all ∙ listed-sum a o candidates read.shares long ∙ parts.sums;
       before = before-filter has_weight all (listed-before a o candidates read.shares named.rising);
-      places = each-passed (IsAt a o) has_weight all (listed-at a o candidates read.shares);
+      places = each-filter (IsAt a o) has_weight all (listed-at a o candidates read.shares);
     })
 
 pub lower-fits : (g : GameData) (nodes : ℕ) (candidates : List ℕ) (d : Dictionary) (advice : LowerAdviceData) → IsReadable d
-    → 0 < g.shape.own_actions → 0 < g.shape.informed_actions → first_going_on g (length candidates) g.shape.own_actions 0 ≤ length d.out
+    → 0 < g.shape.own_actions → 0 < g.shape.informed_actions → lower_variables g (length candidates) ≤ length d.out
     → 1 ≤ length candidates → AreNamed nodes candidates
     → IsOwnRead g d advice.own → AreStepsRead g candidates d advice.own advice.next → AreInformedRead g d advice.informed → LowerFits g nodes advice
 lower-fits g nodes candidates d advice readable some_own some_informed inside some named own next informed =

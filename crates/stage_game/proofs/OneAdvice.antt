@@ -96,7 +96,7 @@ over-pairs-same g f h same =
     (λ a la. flat_map-below (λ o. f a o) (λ o. h a o) g.shape.observations (λ o lo. same a o la lo))
 
 steps-one : (g : GameData) (candidates : List ℕ) (d : Dictionary) (own : List ℤ) (next other : List Branch) → IsReadable d
-    → first_going_on g (length candidates) g.shape.own_actions 0 ≤ length d.out → AreStepsRead g candidates d own next → AreStepsRead g candidates d own other → next ≡ other
+    → lower_variables g (length candidates) ≤ length d.out → AreStepsRead g candidates d own next → AreStepsRead g candidates d own other → next ≡ other
 steps-one g candidates d own next other readable inside p q =
     p.same ∙ over-pairs-same g p.after q.after (λ a o la lo. after a o la lo (p.read a o la lo) (q.read a o la lo)) ∙ sym q.same
   where
@@ -111,7 +111,7 @@ steps-one g candidates d own next other readable inside p q =
         r.same ∙ ap (λ (shares : List ℤ). filter has_weight (listed a o candidates shares)) shares ∙ sym s.same
 
 wanted-one : (g : GameData) (candidates : List ℕ) (d : Dictionary) (wanted other : List Branch) → IsReadable d
-    → first_point_row g (length candidates) g.shape.own_actions 0 ≤ length d.basic → AreWantedRead g candidates d wanted → AreWantedRead g candidates d other → wanted ≡ other
+    → upper_rows g (length candidates) ≤ length d.basic → AreWantedRead g candidates d wanted → AreWantedRead g candidates d other → wanted ≡ other
 wanted-one g candidates d wanted other readable inside p q =
     p.same ∙ over-pairs-same g p.after q.after (λ a o la lo. after a o la lo (p.read a o la lo) (q.read a o la lo)) ∙ sym q.same
   where

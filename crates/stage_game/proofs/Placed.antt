@@ -5,7 +5,7 @@ use Rattle.std.specs.List.{AllByRecursion, range_with_len}
 use Rattle.std.proofs.lemmas.Bool.{cases_eq, ne_eqb}
 use Rattle.std.proofs.lemmas.List.{append-nil}
 use Rattle.std.proofs.lemmas.List.Elements.{filter-append}
-use Rattle.scaled_num.proofs.Sums.{each-append, each-flat_map, from-each}
+use Rattle.scaled_num.proofs.Sums.{below-each, each-append, each-flat_map, from-each}
 use Rattle.scaled_num.specs.Share.{at}
 use Rattle.scaled_num.specs.Sums.{below, total}
 use Rattle.game_model.specs.Branches.{AreRising, Branch, IsBranchBefore, branches_at}
@@ -28,21 +28,21 @@ before-append : (xs ys : List Branch) → AllBefore xs → AllBefore ys → AllB
 before-append [] ys p q h = q
 before-append (x ∷ xs) ys p q h = (each-append (IsBranchBefore x) xs ys p.0 h.0, before-append xs ys p.1 q h.1)
 
-each-filter : {X : Type 0} (P : X → Type 0) (test : X → Bool) (xs : List X) → AllByRecursion P xs → AllByRecursion P (filter test xs)
+each-kept : {X : Type 0} (P : X → Type 0) (b : Bool) (x : X) (xs : List X) → P x → AllByRecursion P xs → AllByRecursion P (cond b (x ∷ xs) xs)
+each-kept P true x xs p h = (p, h)
+each-kept P false x xs p h = h
+
+pub each-filter : {X : Type 0} (P : X → Type 0) (test : X → Bool) (xs : List X) → AllByRecursion P xs → AllByRecursion P (filter test xs)
 each-filter P test [] h = tt
-each-filter P test (x ∷ xs) h = choose (test x)
-  where
-    choose : (b : Bool) → AllByRecursion P (cond b (x ∷ filter test xs) (filter test xs))
-    choose true = (h.0, each-filter P test xs h.1)
-    choose false = each-filter P test xs h.1
+each-filter P test (x ∷ xs) h = each-kept P (test x) x (filter test xs) h.0 (each-filter P test xs h.1)
+
+before-kept : (b : Bool) (x : Branch) (xs : List Branch) → AllByRecursion (IsBranchBefore x) xs → AllBefore xs → AllBefore (cond b (x ∷ xs) xs)
+before-kept true x xs p h = (p, h)
+before-kept false x xs p h = h
 
 pub before-filter : (test : Branch → Bool) (xs : List Branch) → AllBefore xs → AllBefore (filter test xs)
 before-filter test [] h = tt
-before-filter test (x ∷ xs) h = choose (test x)
-  where
-    choose : (b : Bool) → AllBefore (cond b (x ∷ filter test xs) (filter test xs))
-    choose true = (each-filter (IsBranchBefore x) test xs h.0, before-filter test xs h.1)
-    choose false = before-filter test xs h.1
+before-filter test (x ∷ xs) h = before-kept (test x) x (filter test xs) (each-filter (IsBranchBefore x) test xs h.0) (before-filter test xs h.1)
 
 pub each-weaker : {X : Type 0} (P Q : X → Type 0) → ((x : X) → P x → Q x) → (xs : List X) → AllByRecursion P xs → AllByRecursion Q xs
 each-weaker P Q h [] p = tt
@@ -77,18 +77,18 @@ over-pairs-rising g after are =
     (λ i j b d l p q. inl (omega arith))
     (λ a la. before-range (λ o. after a o) (λ o b. IsAt a o b) 0 g.shape.observations
     (λ i j b d l p q. inr (p.0 ∙ sym q.0, inl (omega (arith, p.1, q.1))))
-    (λ o lo. are.before a o la lo) (λ o lo. are.places a o la lo))
+    (λ o lo. are.before a o (omega arith) (omega arith)) (λ o lo. are.places a o (omega arith) (omega arith)))
     (λ a la. each-flat_map (λ b. b.own ≡ a) (λ o. after a o) (below g.shape.observations)
-    (from-each (λ o. AllByRecursion (λ b. b.own ≡ a) (after a o)) 0 g.shape.observations
-    (λ o low lo. each-weaker (IsAt a o) (λ b. b.own ≡ a) (λ b h. h.0) (after a o) (are.places a o la lo)))))
+    (below-each (λ o. AllByRecursion (λ b. b.own ≡ a) (after a o)) g.shape.observations
+    (λ o lo. each-weaker (IsAt a o) (λ b. b.own ≡ a) (λ b h. h.0) (after a o) (are.places a o (omega arith) lo)))))
 
 pub over-pairs-each : (P : Branch → Type 0) (g : GameData) (after : ℕ → ℕ → List Branch) → ((a o : ℕ) → a < g.shape.own_actions → o < g.shape.observations → AllByRecursion P (after a o))
     → AllByRecursion P (over_pairs g after)
 over-pairs-each P g after h =
     each-flat_map P (λ a. flat_map (λ o. after a o) (below g.shape.observations)) (below g.shape.own_actions)
-    (from-each (λ a. AllByRecursion P (flat_map (λ o. after a o) (below g.shape.observations))) 0 g.shape.own_actions
-    (λ a low la. each-flat_map P (λ o. after a o) (below g.shape.observations)
-    (from-each (λ o. AllByRecursion P (after a o)) 0 g.shape.observations (λ o low lo. h a o la lo))))
+    (below-each (λ a. AllByRecursion P (flat_map (λ o. after a o) (below g.shape.observations))) g.shape.own_actions
+    (λ a la. each-flat_map P (λ o. after a o) (below g.shape.observations)
+    (below-each (λ o. AllByRecursion P (after a o)) g.shape.observations (λ o lo. h a o la lo))))
 
 -- ---- the branches of one pair
 filter-flat_map : {X : Type 0} (test : X → Bool) (f : ℕ → List X) (is : List ℕ) → filter test (flat_map f is) ≡ flat_map (λ i. filter test (f i)) is
@@ -131,13 +131,13 @@ pub branches-of-pair : (g : GameData) (after : ℕ → ℕ → List Branch) (a o
     → ((c p : ℕ) → c < g.shape.own_actions → p < g.shape.observations → AllByRecursion (IsAt c p) (after c p)) → branches_at (over_pairs g after) a o ≡ after a o
 branches-of-pair g after a o la lo places =
     filter-flat_map (is_at a o) (λ c. flat_map (λ p. after c p) (below g.shape.observations)) (below g.shape.own_actions)
-    ∙ one-in (λ c. filter (is_at a o) (flat_map (λ p. after c p) (below g.shape.observations))) 0 g.shape.own_actions a (omega arith) la
+    ∙ one-in (λ c. filter (is_at a o) (flat_map (λ p. after c p) (below g.shape.observations))) 0 g.shape.own_actions a (omega arith) (omega arith)
     (λ c low lc ne. filter-flat_map (is_at a o) (λ p. after c p) (below g.shape.observations)
     ∙ nothing-in (λ p. filter (is_at a o) (after c p)) 0 g.shape.observations
-    (λ p low lp. none-pass (is_at a o) (IsAt c p) (λ b h. own-fails a o c ne b h.0) (after c p) (places c p lc lp)))
+    (λ p low lp. none-pass (is_at a o) (IsAt c p) (λ b h. own-fails a o c ne b h.0) (after c p) (places c p (omega arith) (omega arith))))
     ∙ filter-flat_map (is_at a o) (λ p. after a p) (below g.shape.observations)
-    ∙ one-in (λ p. filter (is_at a o) (after a p)) 0 g.shape.observations o (omega arith) lo
-    (λ p low lp ne. none-pass (is_at a o) (IsAt a p) (seen-fails a o p ne) (after a p) (places a p la lp))
+    ∙ one-in (λ p. filter (is_at a o) (after a p)) 0 g.shape.observations o (omega arith) (omega arith)
+    (λ p low lp ne. none-pass (is_at a o) (IsAt a p) (seen-fails a o p ne) (after a p) (places a p la (omega arith)))
     ∙ all-pass (is_at a o) (IsAt a o) (at-passes a o) (after a o) (places a o la lo)
 
 -- ---- listed members
@@ -171,11 +171,8 @@ map-each P f a (suc n) h = (h a (omega arith), map-each P f (a + 1) n (λ i l. h
 pub listed-before : (a o : ℕ) (members : List ℕ) (weights : List ℤ) → AreRisingNumbers members → AllBefore (listed a o members weights)
 listed-before a o members weights rising =
     map-before (listed_one a o members weights) 0 (length members)
-    (λ i j l k. inr (refl, inr (refl, rising-at members rising i j l k)))
+    (λ i j l k. inr (refl, inr (refl, rising-at members rising i j l (omega arith))))
 
 pub listed-at : (a o : ℕ) (members : List ℕ) (weights : List ℤ) → AllByRecursion (IsAt a o) (listed a o members weights)
 listed-at a o members weights =
     map-each (IsAt a o) (listed_one a o members weights) 0 (length members) (λ i l. (refl, refl))
-
-pub each-passed : (P : Branch → Type 0) (test : Branch → Bool) (xs : List Branch) → AllByRecursion P xs → AllByRecursion P (filter test xs)
-each-passed P test xs h = each-filter P test xs h

@@ -1,11 +1,12 @@
 -- How many rows and variables stage programs have.
-use Rattle.std.proofs.Common.{◌≡◌, ℕ, zero, suc, ◌<◌, ◌+◌, ◌*◌, ◌++◌, ◌∷◌, [], List, length, map, replicate, refl, sym, ap, ◌∙◌, arith}
+use Rattle.std.proofs.Common.{◌≡◌, ℕ, zero, suc, ◌<◌, ◌≤◌, ◌+◌, ◌*◌, ◌^◌, ◌++◌, ◌∷◌, [], List, length, map, replicate, refl, sym, ap, ◌∙◌, arith}
 use Rattle.std.specs.Prelude.{ℤ, pos, flat_map}
 use Rattle.std.proofs.lemmas.List.{length-append, length-map}
 use Rattle.std.proofs.lemmas.List.FromFn.{length-map-range_with_len, length-range_with_len}
+use Rattle.std.proofs.Math.Nat.{mul-le-mul}
 use Rattle.scaled_num.specs.Sums.{below}
 use Rattle.alpha_set.specs.Nodes.{NodeData}
-use Rattle.game_model.specs.Game.{GameData}
+use Rattle.game_model.specs.Game.{GameData, IsShape}
 use Rattle.point_set.specs.Corners.{point_at}
 use Rattle.point_set.specs.Points.{PointData}
 use Rattle.simplex.specs.Program.{row_count, variable_count}
@@ -83,3 +84,22 @@ upper-rows p g belief points candidates bits e =
       worth-long g (upper_worth_row g bits),
       pairs-long g after (length candidates) (λ a o. length-map candidates (λ k. point_row g bits (point_at points k) a o)),
     ) in all)
+
+-- ---- all of it is small
+product-le : (a b most other : ℕ) → a ≤ most → b ≤ other → a * b ≤ most * other
+product-le a b most other p q = mul-le-mul p q
+
+pub lower-small : (g : GameData) (count : ℕ) → IsShape g.shape → count ≤ 16 → (lower_variables g count < 2 ^ 32) × (lower_rows g < 2 ^ 32)
+lower-small g count shape few =
+    let pairs : g.shape.own_actions * g.shape.observations ≤ 6 * 8 = product-le g.shape.own_actions g.shape.observations 6 8 shape.own_actions.1 shape.observations.1 in
+    let going : g.shape.own_actions * g.shape.observations * count ≤ 48 * 16 = product-le (g.shape.own_actions * g.shape.observations) count 48 16 pairs few in
+    let worth : g.shape.states * g.shape.informed_actions ≤ 16 * 6 = product-le g.shape.states g.shape.informed_actions 16 6 shape.states.1 shape.informed_actions.1 in
+    (omega (arith, shape.states.1, shape.own_actions.1), omega arith)
+
+pub upper-small : (g : GameData) (count : ℕ) → IsShape g.shape → count ≤ 24 → (upper_variables g < 2 ^ 32) × (upper_rows g count < 2 ^ 32)
+upper-small g count shape few =
+    let pairs : g.shape.own_actions * g.shape.observations ≤ 6 * 8 = product-le g.shape.own_actions g.shape.observations 6 8 shape.own_actions.1 shape.observations.1 in
+    let going : g.shape.own_actions * g.shape.observations * count ≤ 48 * 24 = product-le (g.shape.own_actions * g.shape.observations) count 48 24 pairs few in
+    let next : g.shape.own_actions * g.shape.observations * g.shape.states ≤ 48 * 16 = product-le (g.shape.own_actions * g.shape.observations) g.shape.states 48 16 pairs shape.states.1 in
+    let worth : g.shape.states * g.shape.informed_actions ≤ 16 * 6 = product-le g.shape.states g.shape.informed_actions 16 6 shape.states.1 shape.informed_actions.1 in
+    (omega (arith, shape.states.1, shape.own_actions.1), omega arith)

@@ -4,7 +4,7 @@ use Rattle.std.specs.Prelude.{ℤ, pos, flat_map, ◌≤ℤ◌, ◌+ℤ◌}
 use Rattle.std.specs.List.{AllByRecursion, range_with_len}
 use Rattle.std.proofs.lemmas.List.{get_or-append-add, length-append}
 use Rattle.std.proofs.Math.ListN.{get_or-append}
-use Rattle.scaled_num.proofs.Sums.{each-flat_map, from-each, total-below, total-places}
+use Rattle.scaled_num.proofs.Sums.{below-each, each-flat_map, total-below, total-places}
 use Rattle.scaled_num.specs.Share.{at}
 use Rattle.scaled_num.specs.Sums.{below, sum_of, total}
 use Rattle.belief.specs.Mixes.{AreMixes, MixesData, mix_at}
@@ -33,12 +33,12 @@ block-at f count a (suc n) (suc i) c h l k =
 pub are-mixes : (states actions : ℕ) (mix : ℕ → List ℤ) → ((s : ℕ) → s < states → ArePartsOf (pos mix_total) actions (mix s))
     → AreMixes (record { states = states; actions = actions; weights = flat_map mix (below states) })
 are-mixes states actions mix parts = record {
-  long = blocks-long mix actions 0 states (λ i l. (parts i l).long);
+  long = blocks-long mix actions 0 states (λ i l. (parts i (omega arith)).long);
   each = each-flat_map (IsWithin (pos 0) (pos mix_total)) mix (below states)
-      (from-each (λ s. AllByRecursion (IsWithin (pos 0) (pos mix_total)) (mix s)) 0 states (λ s low l. parts-within (pos mix_total) actions (mix s) (parts s l)));
+      (below-each (λ s. AllByRecursion (IsWithin (pos 0) (pos mix_total)) (mix s)) states (λ s l. parts-within (pos mix_total) actions (mix s) (parts s l)));
   sums = λ s l.
       total-below actions (λ c. at (flat_map mix (below states)) (s * actions + c)) (λ c. at (mix s) c)
-      (λ c k. block-at mix actions 0 states s c (λ i l. (parts i l).long) l k ∙ ap (λ (j : ℕ). at (mix j) c) (omega arith))
+      (λ c k. block-at mix actions 0 states s c (λ i l. (parts i (omega arith)).long) l k ∙ ap (λ (j : ℕ). at (mix j) c) (omega arith))
       ∙ ap (λ (n : ℕ). total (λ c. at (mix s) c) (below n)) (sym (parts s l).long)
       ∙ total-places (λ x. x) (pos 0) (mix s)
       ∙ (parts s l).sums;

@@ -49,23 +49,23 @@ rising-range f a (suc (suc n)) h = (h a (a + 1) (omega arith) (omega arith), ris
 
 -- ---- at most eight of the candidates are no corner
 -- the more pass a test, the longer the list of those that do
+passing-kept : (b c : Bool) (i : ℕ) (xs ys : List ℕ) → (b ≡ true → c ≡ true) → length xs ≤ length ys → length (cond b (i ∷ xs) xs) ≤ length (cond c (i ∷ ys) ys)
+passing-kept true true i xs ys e l = omega arith
+passing-kept true false i xs ys e l = let never : false ≡ true = e refl in cc
+passing-kept false true i xs ys e l = omega arith
+passing-kept false false i xs ys e l = l
+
 passing-more : (p q : ℕ → Bool) (is : List ℕ) → AllByRecursion (λ i. p i ≡ true → q i ≡ true) is → length (filter p is) ≤ length (filter q is)
 passing-more p q [] h = omega arith
-passing-more p q (i ∷ is) h = step (p i) (q i) h.0
-  where
-    step : (b c : Bool) → (b ≡ true → c ≡ true) → length (cond b (i ∷ filter p is) (filter p is)) ≤ length (cond c (i ∷ filter q is) (filter q is))
-    step true true e = omega (arith, passing-more p q is h.1)
-    step true false e = let never : false ≡ true = e refl in absurd (cc)
-    step false true e = omega (arith, passing-more p q is h.1)
-    step false false e = passing-more p q is h.1
+passing-more p q (i ∷ is) h = passing-kept (p i) (q i) i (filter p is) (filter q is) h.0 (passing-more p q is h.1)
+
+as-many : {X Y : Type 0} (b : Bool) (x : X) (y : Y) (xs : List X) (ys : List Y) → length ys ≡ length xs → length (cond b (y ∷ ys) ys) ≡ length (cond b (x ∷ xs) xs)
+as-many true x y xs ys e = ap suc e
+as-many false x y xs ys e = e
 
 filter-map : {X Y : Type 0} (test : Y → Bool) (f : X → Y) (xs : List X) → length (filter test (map f xs)) ≡ length (filter (λ x. test (f x)) xs)
 filter-map test f [] = refl
-filter-map test f (x ∷ xs) = step (test (f x))
-  where
-    step : (b : Bool) → length (cond b (f x ∷ filter test (map f xs)) (filter test (map f xs))) ≡ length (cond b (x ∷ filter (λ x. test (f x)) xs) (filter (λ x. test (f x)) xs))
-    step true = ap suc (filter-map test f xs)
-    step false = filter-map test f xs
+filter-map test f (x ∷ xs) = as-many (test (f x)) x (f x) (filter (λ x. test (f x)) xs) (filter test (map f xs)) (filter-map test f xs)
 
 by-place : (members : List ℕ) → map (λ i. slice_index members i) (below (length members)) ≡ members
 by-place members =
@@ -106,7 +106,7 @@ pairs-few g points candidates weights ends =
     omega (arith, first, more, last, ends.few)
 
 pairs-rising : (candidates : List ℕ) (weights : List ℤ) (g : GameData) (points : List PointData) → AreUpperEnds g points candidates → AreRisingPairs (pairs_of candidates weights)
-pairs-rising candidates weights g points ends = rising-range (pair_at candidates weights) 0 (length candidates) (λ i j l k. rising-at candidates ends.named.rising i j l k)
+pairs-rising candidates weights g points ends = rising-range (pair_at candidates weights) 0 (length candidates) (λ i j l k. rising-at candidates ends.named.rising i j l (omega arith))
 
 -- so there are at most 24
 pub few-candidates : (g : GameData) (points : List PointData) (candidates : List ℕ) → AreUpperEnds g points candidates → g.shape.states ≤ 16 → length candidates ≤ 24
@@ -124,7 +124,7 @@ pub wanted-right : (g : GameData) (points : List PointData) (candidates : List �
 wanted-right g points candidates weights ends some long within = record {
   some = omega (arith, length-map-range_with_len (pair_at candidates weights) 0 (length candidates), some-candidate g points candidates ends some);
   rising = pairs-rising candidates weights g points ends;
-  inside = map-each (λ want. want.0 < length points) (pair_at candidates weights) 0 (length candidates) (λ i l. each-at (λ k. k < length points) 0 candidates i ends.named.inside l);
+  inside = map-each (λ want. want.0 < length points) (pair_at candidates weights) 0 (length candidates) (λ i l. each-at (λ k. k < length points) 0 candidates i ends.named.inside (omega arith));
   weights = map-each (λ want. IsWithin (pos 0) (pos weight_end) want.1) (pair_at candidates weights) 0 (length candidates)
       (λ i l. each-at (IsWithin (pos 0) (pos weight_end)) (pos 0) weights i within (omega arith));
   corners = ends.corners;

@@ -3,7 +3,8 @@
 ghost use Rattle.game_model.specs.Branches.{branch_of};
 ghost use Rattle.alpha_set.specs.Nodes.{IsMix};
 ghost use Rattle.stage_game.specs.Advice.{AreStepsRead};
-ghost use Rattle.stage_game.specs.AdviceData.{first_going_on, has_weight, listed};
+ghost use Rattle.stage_game.specs.AdviceData.{has_weight, listed};
+ghost use Rattle.stage_game.specs.Asked.{lower_variables};
 ghost use Rattle.stage_game.specs.Passed.{AddsSteps, AddsStepsAfter};
 ghost use Rattle.stage_game.specs.Reading.{CanBeRead, last_of};
 ghost use Rattle.std.specs.Prelude.{IfOk, filter, length, map, slice_index, ◌*◌, ◌+◌, ◌++◌, ◌<◌, ◌≡◌, ◌≤◌, ◌^◌};
@@ -57,7 +58,7 @@ fn push_steps_after(
     requires observation { o < game.now.shape.observations }
     requires some { 1 ≤ length candidates.now }
     requires short { length candidates.now ≤ 16 }
-    requires variables { first_going_on game.now (length candidates.now) game.now.shape.own_actions 0 ≤ length (last_of solver.now).out }
+    requires variables { lower_variables game.now (length candidates.now) ≤ length (last_of solver.now).out }
     requires few { length (last_of solver.now).out < 2 ^ 32 }
     requires weights { length weights.old ≡ length candidates.now }
     requires shares { length shares.old ≡ length candidates.now }
@@ -88,7 +89,7 @@ fn push_steps_of(
     requires action { a < game.now.shape.own_actions }
     requires some { 1 ≤ length candidates.now }
     requires short { length candidates.now ≤ 16 }
-    requires variables { first_going_on game.now (length candidates.now) game.now.shape.own_actions 0 ≤ length (last_of solver.now).out }
+    requires variables { lower_variables game.now (length candidates.now) ≤ length (last_of solver.now).out }
     requires few { length (last_of solver.now).out < 2 ^ 32 }
     requires weights { length weights.old ≡ length candidates.now }
     requires shares { length shares.old ≡ length candidates.now }
@@ -118,7 +119,7 @@ pub fn read_steps(
     requires own { IsMix game.now.shape.own_actions own.now }
     requires some { 1 ≤ length candidates.now }
     requires short { length candidates.now ≤ 16 }
-    requires variables { first_going_on game.now (length candidates.now) game.now.shape.own_actions 0 ≤ length (last_of solver.now).out }
+    requires variables { lower_variables game.now (length candidates.now) ≤ length (last_of solver.now).out }
     requires few { length (last_of solver.now).out < 2 ^ 32 }
     ensures { IfOk result (λ next. AreStepsRead game.now candidates.now (last_of solver.now) own.now (map branch_of next.items)) }
 {

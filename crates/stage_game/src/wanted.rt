@@ -2,7 +2,8 @@
 
 ghost use Rattle.game_model.specs.Branches.{branch_of};
 ghost use Rattle.stage_game.specs.Advice.{AreWantedRead};
-ghost use Rattle.stage_game.specs.AdviceData.{first_point_row, listed};
+ghost use Rattle.stage_game.specs.AdviceData.{listed};
+ghost use Rattle.stage_game.specs.Asked.{upper_rows};
 ghost use Rattle.stage_game.specs.Passed.{AddsWanted, AddsWantedAfter};
 ghost use Rattle.stage_game.specs.Reading.{CanBeRead, last_of};
 ghost use Rattle.std.specs.Prelude.{IfOk, length, map, slice_index, ◌*◌, ◌+◌, ◌++◌, ◌<◌, ◌≡◌, ◌≤◌, ◌^◌};
@@ -50,7 +51,7 @@ fn push_wanted_after(
     requires action { a < game.now.shape.own_actions }
     requires observation { o < game.now.shape.observations }
     requires short { length candidates.now ≤ 24 }
-    requires rows { first_point_row game.now (length candidates.now) game.now.shape.own_actions 0 ≤ length (last_of solver.now).basic }
+    requires rows { upper_rows game.now (length candidates.now) ≤ length (last_of solver.now).basic }
     requires few { length (last_of solver.now).basic < 2 ^ 32 }
     requires prices { length prices.old ≡ length candidates.now }
     requires weights { length weights.old ≡ length candidates.now }
@@ -82,7 +83,7 @@ fn push_wanted_of(
     requires last { CanBeRead solver.now }
     requires action { a < game.now.shape.own_actions }
     requires short { length candidates.now ≤ 24 }
-    requires rows { first_point_row game.now (length candidates.now) game.now.shape.own_actions 0 ≤ length (last_of solver.now).basic }
+    requires rows { upper_rows game.now (length candidates.now) ≤ length (last_of solver.now).basic }
     requires few { length (last_of solver.now).basic < 2 ^ 32 }
     requires prices { length prices.old ≡ length candidates.now }
     requires weights { length weights.old ≡ length candidates.now }
@@ -109,7 +110,7 @@ pub fn read_wanted(
 ) -> Result<Vec<Share>, AllocError>
     requires last { CanBeRead solver.now }
     requires short { length candidates.now ≤ 24 }
-    requires rows { first_point_row game.now (length candidates.now) game.now.shape.own_actions 0 ≤ length (last_of solver.now).basic }
+    requires rows { upper_rows game.now (length candidates.now) ≤ length (last_of solver.now).basic }
     requires few { length (last_of solver.now).basic < 2 ^ 32 }
     ensures { IfOk result (λ wanted. AreWantedRead game.now candidates.now (last_of solver.now) (map branch_of wanted.items)) }
 {

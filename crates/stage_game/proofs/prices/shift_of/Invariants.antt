@@ -3,4 +3,4 @@ use Rattle.stage_game.specs.Reading.{weight_end}
 use Rattle.stage_game.proofs.prices.shift_of.Given as goal
 
 abbrev pub invariant-loop-bits : goal.invariant-loop-bits
-invariant-loop-bits l = (fewer : ℕ) → fewer < l.bits → weight_end ≤ l.price / 2 ^ fewer
+invariant-loop-bits l = (fewer : ℕ) → fewer < l.bits → weight_end ≤ l.fn.price / 2 ^ fewer

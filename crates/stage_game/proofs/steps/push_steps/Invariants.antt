@@ -7,4 +7,4 @@ use Rattle.stage_game.proofs.steps.push_steps.Given as goal
 
 abbrev pub invariant-loop-place : goal.invariant-loop-place
 invariant-loop-place l =
-    map branch_of l.next.items ≡ map branch_of l.initial.next.items ++ filter has_weight (map (listed_one l.a l.o l.candidates l.shares) (below l.place))
+    map branch_of l.next.items ≡ map branch_of l.initial.next.items ++ filter has_weight (map (listed_one l.fn.a l.fn.o l.fn.candidates l.fn.shares) (below l.place))

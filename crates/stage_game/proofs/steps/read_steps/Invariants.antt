@@ -9,8 +9,8 @@ use Rattle.stage_game.proofs.steps.read_steps.Given as goal
 
 abbrev pub invariant-loop-a : goal.invariant-loop-a
 invariant-loop-a l = record {
-  weights : length l.weights.items ≡ length l.candidates;
-  shares : length l.shares.items ≡ length l.candidates;
-  adds : Adds {X = ℕ → List Branch} {Y = Branch} (λ a after. (o : ℕ) → o < l.game.shape.observations → AreStepsAfter l.game l.candidates (last_of l.solver) l.own a o (after o))
-      (λ after. flat_map after (below l.game.shape.observations)) l.a [] (map branch_of l.next.items);
+  weights : length l.weights.items ≡ length l.fn.candidates;
+  shares : length l.shares.items ≡ length l.fn.candidates;
+  adds : Adds {X = ℕ → List Branch} {Y = Branch} (λ a after. (o : ℕ) → o < l.fn.game.shape.observations → AreStepsAfter l.fn.game l.fn.candidates (last_of l.fn.solver) l.fn.own a o (after o))
+      (λ after. flat_map after (below l.fn.game.shape.observations)) l.a [] (map branch_of l.next.items);
 }

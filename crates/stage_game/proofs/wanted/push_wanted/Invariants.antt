@@ -6,4 +6,4 @@ use Rattle.stage_game.proofs.wanted.push_wanted.Given as goal
 
 abbrev pub invariant-loop-place : goal.invariant-loop-place
 invariant-loop-place l =
-    map branch_of l.wanted.items ≡ map branch_of l.initial.wanted.items ++ map (listed_one l.a l.o l.candidates l.weights) (below l.place)
+    map branch_of l.wanted.items ≡ map branch_of l.initial.wanted.items ++ map (listed_one l.fn.a l.fn.o l.fn.candidates l.fn.weights) (below l.place)

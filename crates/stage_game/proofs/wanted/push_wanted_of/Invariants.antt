@@ -7,7 +7,7 @@ use Rattle.stage_game.proofs.wanted.push_wanted_of.Given as goal
 
 abbrev pub invariant-loop-o : goal.invariant-loop-o
 invariant-loop-o l = record {
-  prices : length l.prices ≡ length l.candidates;
-  weights : length l.weights ≡ length l.candidates;
-  adds : Adds {X = List Branch} {Y = Branch} (λ o wanted. AreWantedAfter l.game l.candidates (last_of l.solver) l.a o wanted) (λ wanted. wanted) l.o (map branch_of l.initial.wanted.items) (map branch_of l.wanted.items);
+  prices : length l.prices ≡ length l.fn.candidates;
+  weights : length l.weights ≡ length l.fn.candidates;
+  adds : Adds {X = List Branch} {Y = Branch} (λ o wanted. AreWantedAfter l.fn.game l.fn.candidates (last_of l.fn.solver) l.fn.a o wanted) (λ wanted. wanted) l.o (map branch_of l.initial.wanted.items) (map branch_of l.wanted.items);
 }

@@ -9,8 +9,8 @@ use Rattle.stage_game.proofs.wanted.read_wanted.Given as goal
 
 abbrev pub invariant-loop-a : goal.invariant-loop-a
 invariant-loop-a l = record {
-  prices : length l.prices.items ≡ length l.candidates;
-  weights : length l.weights.items ≡ length l.candidates;
-  adds : Adds {X = ℕ → List Branch} {Y = Branch} (λ a after. (o : ℕ) → o < l.game.shape.observations → AreWantedAfter l.game l.candidates (last_of l.solver) a o (after o))
-      (λ after. flat_map after (below l.game.shape.observations)) l.a [] (map branch_of l.wanted.items);
+  prices : length l.prices.items ≡ length l.fn.candidates;
+  weights : length l.weights.items ≡ length l.fn.candidates;
+  adds : Adds {X = ℕ → List Branch} {Y = Branch} (λ a after. (o : ℕ) → o < l.fn.game.shape.observations → AreWantedAfter l.fn.game l.fn.candidates (last_of l.fn.solver) a o (after o))
+      (λ after. flat_map after (below l.fn.game.shape.observations)) l.a [] (map branch_of l.wanted.items);
 }
