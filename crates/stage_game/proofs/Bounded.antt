@@ -95,7 +95,7 @@ all-of g Ends ends right =
   where
     both : (ks : List ℕ) → AllByRecursion Ends ks → (a o : ℕ) → a < g.shape.own_actions → o < g.shape.observations → AllByRecursion (λ k. (a < g.shape.own_actions) × (o < g.shape.observations) × Ends k) ks
     both [] all a o la lo = tt
-    both (k ∷ ks) (here, rest) a o la lo = ((la, lo, here), both ks rest a o la lo)
+    both (k ∷ ks) all a o la lo = ((la, lo, all.0), both ks all.1 a o la lo)
 
 -- ---- a rise of a program over variables, row by row
 no-variable : Variable

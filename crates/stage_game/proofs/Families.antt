@@ -1,5 +1,5 @@
 -- Lists that are made of one part for each number below a count, in order.
-use Rattle.std.proofs.Common.{◌≡◌, ◌⊎◌, ℕ, zero, suc, ◌<◌, ◌+◌, ◌*◌, ◌++◌, ◌∷◌, [], List, Bool, true, false, cond, length, refl, sym, subst, ap, ap₂, ◌∙◌, arith, eq-eqb, append_assoc}
+use Rattle.std.proofs.Common.{◌≡◌, ◌⊎◌, ℕ, zero, suc, ◌<◌, ◌+◌, ◌*◌, ◌++◌, ◌∷◌, [], List, Bool, true, false, cond, length, inl, inr, refl, sym, subst, ap, ap₂, ◌∙◌, arith, eq-eqb, append_assoc}
 use Rattle.std.specs.Prelude.{flat_map, map, ◌==◌}
 use Rattle.std.specs.List.{range_with_len}
 use Rattle.std.proofs.lemmas.List.{append-nil, length-append}
@@ -77,7 +77,7 @@ adds-more R part count old middle new x adds right e = record {
 
 -- blocks of one length, one behind another
 pub blocks-long : {X : Type 0} (f : ℕ → List X) (count a n : ℕ) → ((i : ℕ) → i < a + n → length (f i) ≡ count) → length (flat_map f (range_with_len a n)) ≡ n * count
-blocks-long f count a zero h = refl
+blocks-long f count a zero h = let none : 0 ≡ 0 * count = omega arith in none
 blocks-long f count a (suc n) h =
     length-append (f a) (flat_map f (range_with_len (a + 1) n))
     ∙ (let rest : length (flat_map f (range_with_len (a + 1) n)) ≡ n * count = blocks-long f count (a + 1) n (λ i l. h i (omega arith)) in

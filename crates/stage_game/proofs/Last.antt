@@ -1,11 +1,13 @@
 -- The last dictionary of a solver, and the values that are read from it.
 use Rattle.std.proofs.Common.{◌≡◌, ◌⊎◌, ℕ, zero, suc, ◌<◌, ◌≤◌, ◌*◌, ◌+◌, ◌^◌, [], ◌∷◌, List, length, refl, sym, ap, subst, ◌∙◌, inl, inr, arith, unsigned_abs}
-use Rattle.std.specs.Prelude.{ℤ, pos, ◌*ℤ◌, ◌≤ℤ◌, ◌<ℤ◌, Option, Some, None, IfSome, IsSome, unwrap_or}
+use Rattle.std.specs.Prelude.{ℤ, pos, neg_ℤ, ◌*ℤ◌, ◌≤ℤ◌, ◌<ℤ◌, Option, Some, None, IfSome, IsSome, unwrap_or}
 use Rattle.std.specs.Int.{◌∣◌}
 use Rattle.std.proofs.lemmas.Bool.{cases_eq}
 use Rattle.std.proofs.lemmas.Int.{ints, unsigned_abs-mul}
 use Rattle.std.proofs.Math.Nat.{dvd-mul_right, le_of_dvd}
+use Rattle.scaled_num.proofs.Floors.{floor-none_negative, product_le, product_none_negative}
 use Rattle.scaled_num.proofs.Products.{mulℤ_comm}
+use Rattle.scaled_num.specs.Share.{IsFloor}
 use Rattle.simplex.proofs.Unique.{divisor, factor}
 use Rattle.simplex.proofs.AlongRuns.{stays_feasible, stays_narrow}
 use Rattle.simplex.proofs.BothRuns.{run_dictionary}
@@ -17,7 +19,7 @@ use Rattle.simplex.specs.declared.End.{End}
 use Rattle.simplex.specs.declared.Program.{Program}
 use Rattle.simplex.specs.Dictionary.{AreCoprime, Dictionary, IsDictionary, number}
 use Rattle.simplex.specs.Reading.{IsLowest, IsPrice, IsPrimal}
-use Rattle.stage_game.specs.Reading.{CanBeRead, IsReadable, last_of, no_dictionary}
+use Rattle.stage_game.specs.Reading.{CanBeRead, IsReadable, last_of, no_dictionary, weight_end}
 
 -- ---- a fact of the last dictionary, and the same as a fact of an option
 pub at-last : (o : Option Dictionary) (P : Dictionary → Type 0) → IsSome o → IfSome o P → P (unwrap_or o no_dictionary)
@@ -115,3 +117,27 @@ readable-basic p d pivots end run = (run_dictionary p d run.before run.run).part
 
 pub can-be-read : (p : Program) (s : State) (pivots : ℕ) (end : End) → IsProgram p → IsSome s.last → IfSome s.last (λ d. RunEnds p pivots d end) → CanBeRead s
 can-be-read p s pivots end serves some run = record { some = some; readable = run-readable p (last_of s) pivots end serves (at-last s.last (λ d. RunEnds p pivots d end) some run) }
+
+-- a weight that is read is 0 to 2^92
+pub weight-within : (weight num den : ℤ) → IsRead num den → IsFloor weight (num *ℤ pos weight_end) den → (pos 0 ≤ℤ weight) × (weight ≤ℤ pos (2 ^ 92))
+weight-within weight num den read floor =
+    let low : pos 0 ≤ℤ weight =
+    floor-none_negative weight (num *ℤ pos weight_end) den (product_none_negative num (pos weight_end) read.not_negative (omega (arith, ints))) read.positive floor in
+    let whole : (pos 1 *ℤ weight) ≤ℤ (den *ℤ weight) = product_le (pos 1) den weight low (let some = read.positive in omega (arith, ints)) in
+    let small : unsigned_abs num < 2 ^ 62 = read.small in
+    (low, omega (arith, ints, whole, floor.low, mulℤ_comm den weight, small))
+
+-- a price is narrow
+pub price-small : (d : Dictionary) (i : ℕ) (price : ℤ) → IsReadable d → i < length d.basic → IsPrice d i price → unsigned_abs price < 2 ^ 62
+price-small d i price readable inside is =
+    let id = readable.dictionary in
+    let basic_long : length d.basic ≡ row_count readable.program = id.parted.basic_long in
+    let out_long : length d.out ≡ variable_count readable.program = id.parted.out_long in
+    elim (id.parted.found (length d.out + i) (omega arith)) [
+      | inl (k, kl, e) ↦ subst (λ z. unsigned_abs z < 2 ^ 62) (sym (is.basic k (omega arith) e)) (omega arith)
+      | inr (q, ql, e) ↦ subst (λ z. unsigned_abs z < 2 ^ 62) (sym (is.out q (omega arith) e))
+          (turned (at d.goal (q + 2)) (readable.narrow.goal (q + 2) (omega (arith, id.goal_long))))
+    ]
+  where
+    turned : (x : ℤ) → unsigned_abs x < 2 ^ 62 → unsigned_abs (neg_ℤ x) < 2 ^ 62
+    turned x l = omega (arith, ints)

@@ -29,6 +29,7 @@ use Rattle.stage_game.proofs.Families.{flat_map-below}
 use Rattle.stage_game.proofs.LowerFitting.{block-inside}
 use Rattle.stage_game.proofs.Last.{readable-basic, readable-out, run-readable}
 use Rattle.stage_game.proofs.Sizes.{lower-rows, lower-variables, upper-rows, upper-variables}
+use Rattle.stage_game.proofs.StateMixes.{same-mixes}
 use Rattle.stage_game.proofs.ReadWeights.{prices-low, primal-low}
 
 -- ---- weights are one
@@ -85,9 +86,6 @@ informed-one : (g : GameData) (d : Dictionary) (mixes other : MixesData) → IsR
 informed-one g d mixes other readable inside p q =
     same-mixes mixes other (p.states ∙ sym q.states) (p.actions ∙ sym q.actions)
     (p.same ∙ flat_map-below p.mix q.mix g.shape.states (λ s l. state-one g d s (p.mix s) (q.mix s) readable l inside (p.read s l) (q.read s l)) ∙ sym q.same)
-  where
-    same-mixes : (mixes other : MixesData) → mixes.states ≡ other.states → mixes.actions ≡ other.actions → mixes.weights ≡ other.weights → mixes ≡ other
-    same-mixes mixes other p q r = cc
 
 -- ---- what stands pair by pair is one
 over-pairs-same : (g : GameData) (f h : ℕ → ℕ → List Branch) → ((a o : ℕ) → a < g.shape.own_actions → o < g.shape.observations → f a o ≡ h a o) → over_pairs g f ≡ over_pairs g h
@@ -122,6 +120,12 @@ wanted-one g candidates d wanted other readable inside p q =
         r.same ∙ ap (λ (weights : List ℤ). listed a o candidates weights) (price-weights-one d (first_point_row g count a o) count r.weights s.weights readable within r.read s.read) ∙ sym s.same
 
 -- ---- advice is one
+abbrev lower-of : List ℤ → List Branch → MixesData → End → LowerAdviceData
+lower-of own next informed end = record { own = own; next = next; informed = informed; end = end }
+
+abbrev upper-of : MixesData → List Branch → List ℤ → End → UpperAdviceData
+upper-of informed wanted own end = record { informed = informed; wanted = wanted; own = own; end = end }
+
 -- the last dictionary and the end of runs of programs with the same numbers
 same-last : (p q : Program) (d e : Dictionary) (end other : End) → program_data p ≡ program_data q → RunEnds p most_pivots d end → RunEnds q most_pivots e other → (end ≡ other) × (d ≡ e)
 same-last p q d e end other same run second =
@@ -145,10 +149,10 @@ lower-one g belief nodes candidates bits advice other p q =
     (subst (λ (own : List ℤ). AreStepsRead g candidates q.last own advice.next) own (subst (λ (d : Dictionary). AreStepsRead g candidates d advice.own advice.next) last.1 p.next)) q.next in
     let informed : advice.informed ≡ other.informed =
     informed-one g q.last advice.informed other.informed readable (omega arith) (subst (λ (d : Dictionary). AreInformedRead g d advice.informed) last.1 p.informed) q.informed in
-    same-advice advice other own next informed last.0
-  where
-    same-advice : (advice other : LowerAdviceData) → advice.own ≡ other.own → advice.next ≡ other.next → advice.informed ≡ other.informed → advice.end ≡ other.end → advice ≡ other
-    same-advice advice other a b c d = cc
+    ap (λ (x : List ℤ). lower-of x advice.next advice.informed advice.end) own
+    ∙ ap (λ (x : List Branch). lower-of other.own x advice.informed advice.end) next
+    ∙ ap (λ (x : MixesData). lower-of other.own other.next x advice.end) informed
+    ∙ ap (λ (x : End). lower-of other.own other.next other.informed x) last.0
 
 pub upper-one : (g : GameData) (belief : List ℤ) (points : List PointData) (candidates : List ℕ) (bits : ℕ) (advice other : UpperAdviceData)
     → IsUpperAdvice g belief points candidates bits advice → IsUpperAdvice g belief points candidates bits other → advice ≡ other
@@ -165,7 +169,7 @@ upper-one g belief points candidates bits advice other p q =
     wanted-one g candidates q.last advice.wanted other.wanted readable (omega arith) (subst (λ (d : Dictionary). AreWantedRead g candidates d advice.wanted) last.1 p.wanted) q.wanted in
     let informed : advice.informed ≡ other.informed =
     informed-one g q.last advice.informed other.informed readable (omega arith) (subst (λ (d : Dictionary). AreInformedRead g d advice.informed) last.1 p.informed) q.informed in
-    same-advice advice other own wanted informed last.0
-  where
-    same-advice : (advice other : UpperAdviceData) → advice.own ≡ other.own → advice.wanted ≡ other.wanted → advice.informed ≡ other.informed → advice.end ≡ other.end → advice ≡ other
-    same-advice advice other a b c d = cc
+    ap (λ (x : MixesData). upper-of x advice.wanted advice.own advice.end) informed
+    ∙ ap (λ (x : List Branch). upper-of other.informed x advice.own advice.end) wanted
+    ∙ ap (λ (x : List ℤ). upper-of other.informed other.wanted x advice.end) own
+    ∙ ap (λ (x : End). upper-of other.informed other.wanted other.own x) last.0

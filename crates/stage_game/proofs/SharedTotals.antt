@@ -46,7 +46,7 @@ topped-parts weights whole shares low whole_low some topped =
     let here : pos 0 ≤ℤ at floors place = floors_low place (pos 0) inside in
     let top : ℤ = at floors place +ℤ (whole -ℤ sum_of floors) in
     subst (ArePartsOf whole (length weights)) (sym topped.topped) (record {
-      long = length-set floors place top ∙ topped.are_floors.same_length;
+      long = simp length-set topped.are_floors.same_length;
       not_negative = set-none_negative floors place top floors_low (omega (arith, ints, here, floors_small));
       sums = topped-sum floors place whole inside;
     })

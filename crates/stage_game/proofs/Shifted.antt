@@ -52,14 +52,14 @@ shift-all prices bits all = record {
 -- the weights that are left are 0 to 2^30
 pub left-within : (prices : List ℕ) (bits : ℕ) → FitShifted prices bits → AllByRecursion (λ x. (pos 0 ≤ℤ x) × (x ≤ℤ pos weight_end)) (map pos (shifted bits prices))
 left-within [] bits h = tt
-left-within (x ∷ xs) bits (here, rest) = ((omega (arith, ints), omega (arith, ints, here)), left-within xs bits rest)
+left-within (x ∷ xs) bits h = ((omega (arith, ints), omega (arith, ints, h.0)), left-within xs bits h.1)
 
 pub left-not-negative : (prices : List ℕ) (bits : ℕ) → FitShifted prices bits → NoneNegative (map pos (shifted bits prices))
 left-not-negative prices bits h = All-from_recursion (λ x. pos 0 ≤ℤ x) (map pos (shifted bits prices)) (each prices h)
   where
     each : (prices : List ℕ) → FitShifted prices bits → AllByRecursion (λ x. pos 0 ≤ℤ x) (map pos (shifted bits prices))
     each [] h = tt
-    each (x ∷ xs) (here, rest) = (omega (arith, ints), each xs rest)
+    each (x ∷ xs) h = (omega (arith, ints), each xs h.1)
 
 pub length-left : (prices : List ℕ) (bits : ℕ) → length (map pos (shifted bits prices)) ≡ length prices
 length-left [] bits = refl
@@ -70,3 +70,8 @@ left-small prices bits short h =
     let most : sum_of (map pos (shifted bits prices)) ≤ℤ pos (length (map pos (shifted bits prices)) * weight_end) = sum-most weight_end (map pos (shifted bits prices)) (left-within prices bits h) in
     let long : length (map pos (shifted bits prices)) ≡ length prices = length-left prices bits in
     omega (arith, ints, most)
+
+pub left-at : (prices : List ℕ) (bits i : ℕ) → i < length prices → at (map pos (shifted bits prices)) i ≡ pos (slice_index prices i / 2 ^ bits)
+left-at [] bits i l = absurd (omega arith)
+left-at (x ∷ xs) bits zero l = refl
+left-at (x ∷ xs) bits (suc i) l = left-at xs bits i (omega arith)

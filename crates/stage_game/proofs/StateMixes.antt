@@ -22,7 +22,8 @@ block-at : (f : ℕ → List ℤ) (count a n i c : ℕ) → ((i : ℕ) → i < a
     → at (flat_map f (range_with_len a n)) (i * count + c) ≡ at (f (a + i)) c
 block-at f count a zero i c h l k = absurd (omega arith)
 block-at f count a (suc n) zero c h l k =
-    get_or-append (f a) (flat_map f (range_with_len (a + 1) n)) (pos 0) c (omega (arith, h a (omega arith)))
+    ap (at (f a ++ flat_map f (range_with_len (a + 1) n))) (let first : 0 * count + c ≡ c = omega arith in first)
+    ∙ get_or-append (f a) (flat_map f (range_with_len (a + 1) n)) (pos 0) c (omega (arith, h a (omega arith)))
     ∙ ap (λ (j : ℕ). at (f j) c) (omega arith)
 block-at f count a (suc n) (suc i) c h l k =
     ap (at (f a ++ flat_map f (range_with_len (a + 1) n))) (let split : suc i * count + c ≡ length (f a) + (i * count + c) = omega (arith, h a (omega arith)) in split)
@@ -44,14 +45,20 @@ are-mixes states actions mix parts = record {
       ∙ (parts s l).sums;
 }
 
+abbrev mixes-of : ℕ → ℕ → List ℤ → MixesData
+mixes-of states actions weights = record { states = states; actions = actions; weights = weights }
+
+-- mixes are told apart by their numbers
+pub same-mixes : (mixes other : MixesData) → mixes.states ≡ other.states → mixes.actions ≡ other.actions → mixes.weights ≡ other.weights → mixes ≡ other
+same-mixes mixes other p q r =
+    ap (λ (s : ℕ). mixes-of s mixes.actions mixes.weights) p
+    ∙ ap (λ (a : ℕ). mixes-of other.states a mixes.weights) q
+    ∙ ap (λ (w : List ℤ). mixes-of other.states other.actions w) r
+
 pub informed-fit : (g : GameData) (d : Dictionary) (mixes : MixesData) → 0 < g.shape.informed_actions → AreInformedRead g d mixes → MixesFit g mixes
 informed-fit g d mixes some read = record {
   states = read.states;
   actions = read.actions;
-  right = subst AreMixes (same mixes read.states read.actions read.same)
+  right = subst AreMixes (sym (same-mixes mixes (mixes-of g.shape.states g.shape.informed_actions (flat_map read.mix (below g.shape.states))) read.states read.actions read.same))
       (are-mixes g.shape.states g.shape.informed_actions read.mix (λ s l. state-mix g d s (read.mix s) some (read.read s l)));
 }
-  where
-    same : (mixes : MixesData) → mixes.states ≡ g.shape.states → mixes.actions ≡ g.shape.informed_actions → mixes.weights ≡ flat_map read.mix (below g.shape.states)
-        → record { states = g.shape.states; actions = g.shape.informed_actions; weights = flat_map read.mix (below g.shape.states) } ≡ mixes
-    same mixes p q r = cc

@@ -75,8 +75,8 @@ by-place members =
 -- a candidate is a corner of a state, or its belief is none
 not-corner : (corners : ℕ → ℕ) (states : ℕ) (points : List PointData) (k : ℕ) → IsOneCorner corners states k ⊎ (is_at_corner (point_at points k) ≡ true → ⊥)
     → not (is_corner corners states k) ≡ true → not (is_at_corner (point_at points k)) ≡ true
-not-corner corners states points k (inl (s, inside, e)) h =
-    let corner : is_corner corners states k ≡ true = subst (λ (k : ℕ). is_corner corners states k ≡ true) e (corner-is corners states s inside) in
+not-corner corners states points k (inl found) h =
+    let corner : is_corner corners states k ≡ true = subst (λ (k : ℕ). is_corner corners states k ≡ true) found.2 (corner-is corners states found.0 found.1) in
     absurd (never (is_corner corners states k) corner h)
   where
     never : (b : Bool) → b ≡ true → not b ≡ true → ⊥

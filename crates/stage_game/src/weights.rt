@@ -3,7 +3,7 @@
 ghost use Rattle.scaled_num.specs.Sums.{sum_of};
 ghost use Rattle.stage_game.specs.Reading.{ArePrimalWeights, CanBeRead, IsPrimalWeight, last_of};
 ghost use Rattle.std.specs.List.{All};
-ghost use Rattle.std.specs.Prelude.{length, pos, ◌+◌, ◌<◌, ◌≤◌, ◌^◌, ◌≤ℤ◌};
+ghost use Rattle.std.specs.Prelude.{length, pos, ◌+◌, ◌<◌, ◌≡◌, ◌≤◌, ◌^◌, ◌≤ℤ◌};
 
 use scaled_num::floor_div;
 use simplex::Solver;
