@@ -1,19 +1,21 @@
 -- Mixes of all states, one behind another, are mixes.
-use Rattle.std.proofs.Common.{◌≡◌, ℕ, zero, suc, ◌<◌, ◌≤◌, ◌+◌, ◌*◌, ◌++◌, [], List, length, get_or, refl, sym, subst, ap, ◌∙◌, arith}
+use Rattle.std.proofs.Common.{◌≡◌, ℕ, zero, suc, ◌<◌, ◌≤◌, ◌+◌, ◌*◌, ◌++◌, ◌∷◌, [], List, length, take, drop, get_or, refl, sym, subst, ap, ◌∙◌, arith}
 use Rattle.std.specs.Prelude.{ℤ, pos, flat_map, ◌≤ℤ◌, ◌+ℤ◌}
 use Rattle.std.specs.List.{AllByRecursion, range_with_len}
 use Rattle.std.proofs.lemmas.List.{get_or-append-add, length-append}
 use Rattle.std.proofs.Math.ListN.{get_or-append}
+use Rattle.std.proofs.Math.Seq.{take-append_seam}
 use Rattle.scaled_num.proofs.Sums.{below-each, each-flat_map, total-below, total-places}
 use Rattle.scaled_num.specs.Share.{at}
 use Rattle.scaled_num.specs.Sums.{below, sum_of, total}
+use Rattle.belief.specs.Beliefs.{mixes_for}
 use Rattle.belief.specs.Mixes.{AreMixes, MixesData, mix_at}
 use Rattle.game_model.specs.Branches.{mix_total}
 use Rattle.game_model.specs.Game.{GameData, IsWithin}
 use Rattle.simplex.specs.Dictionary.{Dictionary}
-use Rattle.stage_game.specs.Advice.{AreInformedRead}
+use Rattle.stage_game.specs.Advice.{AreInformedRead, IsMixRead}
 use Rattle.stage_game.specs.Fits.{MixesFit}
-use Rattle.stage_game.proofs.Families.{blocks-long}
+use Rattle.stage_game.proofs.Families.{Adds, blocks-long}
 use Rattle.stage_game.proofs.ReadWeights.{state-mix}
 use Rattle.stage_game.proofs.SharedTotals.{ArePartsOf, parts-within}
 
@@ -62,3 +64,18 @@ informed-fit g d mixes some read = record {
   right = subst AreMixes (sym (same-mixes mixes (mixes-of g.shape.states g.shape.informed_actions (flat_map read.mix (below g.shape.states))) read.states read.actions read.same))
       (are-mixes g.shape.states g.shape.informed_actions read.mix (λ s l. state-mix g d s (read.mix s) some (read.read s l)));
 }
+
+-- the mixes that a loop has written, state by state
+pub all-mixes : (g : GameData) (d : Dictionary) (count : ℕ) (written items : List ℤ) → count ≡ g.shape.states → items ≡ written
+    → Adds {X = List ℤ} {Y = ℤ} (λ s mix. IsMixRead g d s mix) (λ mix. mix) count [] written → AreInformedRead g d (mixes_for g items)
+all-mixes g d count written items done e adds = record {
+  states = refl;
+  actions = refl;
+  mix = adds.made.value;
+  read = λ s l. adds.made.right s (subst (λ (n : ℕ). s < n) (sym done) l);
+  same = e ∙ adds.same ∙ adds.made.same ∙ ap (λ (n : ℕ). flat_map adds.made.value (below n)) done;
+}
+
+-- what a slice of a vector holds after a call
+pub written-back : (xs ys : List ℤ) (n : ℕ) → length xs ≡ n → take n (xs ++ drop (length xs) ys) ≡ xs
+written-back xs ys n e = subst (λ (m : ℕ). take m (xs ++ drop (length xs) ys) ≡ xs) e (take-append_seam xs (drop (length xs) ys))

@@ -1,13 +1,17 @@
 -- Branches that a loop writes, one for each place.
 use Rattle.std.proofs.Common.{◌≡◌, ℕ, ◌<◌, ◌+◌, ◌++◌, ◌∷◌, [], List, Bool, true, false, cond, map, refl, sym, ap, ◌∙◌, arith, append_assoc}
-use Rattle.std.specs.Prelude.{filter, flat_map}
+use Rattle.std.specs.Prelude.{ℤ, pos, negsuc, filter, flat_map, unsigned_abs, FitsSigned}
+use Rattle.std.specs.Int.{w128}
+use Rattle.std.proofs.lemmas.Bool.{lt-ltb}
+use Rattle.std.proofs.lemmas.Int.{fits_signed_from_abs}
+use Rattle.point_set.proofs.Named.{same-bits}
+use Rattle.std.proofs.Common.{of_z, ltb, suc, zero}
 use Rattle.std.proofs.lemmas.List.{append-nil}
 use Rattle.std.proofs.lemmas.List.Elements.{filter-append}
 use Rattle.std.proofs.lemmas.List.FromFn.{map-range_with_len_more}
 use Rattle.scaled_num.specs.Sums.{below}
 use Rattle.game_model.specs.Branches.{Branch}
 use Rattle.game_model.specs.Game.{GameData}
-use Rattle.std.specs.Prelude.{ℤ}
 use Rattle.simplex.specs.Dictionary.{Dictionary}
 use Rattle.stage_game.specs.Advice.{AreStepsAfter, AreStepsRead, AreWantedAfter, AreWantedRead}
 use Rattle.stage_game.specs.AdviceData.{has_weight}
@@ -75,3 +79,12 @@ wanted-all g candidates d new adds = record {
   read = λ a o la lo. adds.made.right a la o lo;
   same = adds.same ∙ adds.made.same;
 }
+
+-- ---- the test as the code makes it, by the bits of a number
+pub weighs : (x : ℤ) → (of_z w128 x ≡ 0 → ⊥) → ltb 0 (unsigned_abs x) ≡ true
+weighs (pos zero) h = absurd (h refl)
+weighs (pos (suc n)) h = lt-ltb 0 (suc n) (omega arith)
+weighs (negsuc n) h = lt-ltb 0 (suc n) (omega arith)
+
+pub weighs-not : (x : ℤ) → FitsSigned w128 x → of_z w128 x ≡ 0 → ltb 0 (unsigned_abs x) ≡ false
+weighs-not x fits h = ap (λ (z : ℤ). ltb 0 (unsigned_abs z)) (same-bits x (pos 0) fits (fits_signed_from_abs w128 (pos 0) (omega arith)) h)

@@ -28,7 +28,8 @@ fn push_steps(
     ensures { IfOk result (λ _. map branch_of next.new.items ≡ map branch_of next.old.items ++ filter has_weight (listed a o candidates.now shares.now)) }
 {
     for place in 0..candidates.len() {
-        if shares[place] != 0 {
+        let weighs = shares[place] != 0;
+        if weighs {
             next.push(Step {
                 a,
                 o,
