@@ -1,10 +1,9 @@
 -- Mixes of all states, one behind another, are mixes.
-use Rattle.std.proofs.Common.{◌≡◌, ℕ, zero, suc, ◌<◌, ◌≤◌, ◌+◌, ◌*◌, ◌++◌, ◌∷◌, [], List, length, take, drop, get_or, refl, sym, subst, ap, ◌∙◌, arith}
+use Rattle.std.proofs.Common.{◌≡◌, ℕ, zero, suc, ◌<◌, ◌≤◌, ◌+◌, ◌*◌, ◌++◌, ◌∷◌, [], List, length, get_or, refl, sym, subst, ap, ◌∙◌, arith}
 use Rattle.std.specs.Prelude.{ℤ, pos, flat_map, ◌≤ℤ◌, ◌+ℤ◌}
 use Rattle.std.specs.List.{AllByRecursion, range_with_len}
 use Rattle.std.proofs.lemmas.List.{get_or-append-add, length-append}
 use Rattle.std.proofs.Math.ListN.{get_or-append}
-use Rattle.std.proofs.Math.Seq.{take-append_seam}
 use Rattle.scaled_num.proofs.Sums.{below-each, each-flat_map, total-below, total-places}
 use Rattle.scaled_num.specs.Share.{at}
 use Rattle.scaled_num.specs.Sums.{below, sum_of, total}
@@ -75,7 +74,3 @@ all-mixes g d count written items done e adds = record {
   read = λ s l. adds.made.right s (subst (λ (n : ℕ). s < n) (sym done) l);
   same = e ∙ adds.same ∙ adds.made.same ∙ ap (λ (n : ℕ). flat_map adds.made.value (below n)) done;
 }
-
--- what a slice of a vector holds after a call
-pub written-back : (xs ys : List ℤ) (n : ℕ) → length xs ≡ n → take n (xs ++ drop (length xs) ys) ≡ xs
-written-back xs ys n e = subst (λ (m : ℕ). take m (xs ++ drop (length xs) ys) ≡ xs) e (take-append_seam xs (drop (length xs) ys))

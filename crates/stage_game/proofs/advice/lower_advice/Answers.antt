@@ -1,7 +1,8 @@
-use Rattle.std.proofs.Common.{◌≡◌, ◌≤◌, length, arith}
+use Rattle.std.proofs.Common.{◌≡◌, ◌≤◌, List, ℤ, length, map, subst, arith}
+use Rattle.game_model.specs.Branches.{branch_of}
 use Rattle.simplex.specs.Program.{variable_count}
 use Rattle.simplex.specs.Run.{RunEnds}
-use Rattle.stage_game.specs.Advice.{most_pivots}
+use Rattle.stage_game.specs.Advice.{AreStepsRead, most_pivots}
 use Rattle.stage_game.specs.Asked.{lower_variables}
 use Rattle.stage_game.specs.Reading.{CanBeRead, last_of}
 use Rattle.stage_game.proofs.Bounded.{lower-not-unbounded}
@@ -32,7 +33,7 @@ returns-clause-advice c =
       last = last_of solver;
       run = at-last solver.last (λ d. RunEnds program most_pivots d c.run-end.result) c.run-end.ensures.last c.run-end.ensures.run;
       own = c.in_ok-own.ensures.own;
-      next = c.in_ok-next.ensures;
+      next = subst (λ (own : List ℤ). AreStepsRead c.args.game.now c.args.candidates.now (last_of solver) own (map branch_of c.in_ok-next.next.items)) c.deref.ensures.value c.in_ok-next.ensures;
       informed = c.in_ok-informed.ensures.informed;
     }
 
@@ -45,9 +46,11 @@ returns-clause-fits c =
     let can : CanBeRead solver = can-be-read program solver most_pivots c.run-end.result c.in_ok-program.ensures.serves c.run-end.ensures.last c.run-end.ensures.run in
     let out : length (last_of solver).out ≡ variable_count program = readable-out program (last_of solver) most_pivots c.run-end.result run in
     let inside : lower_variables g (length c.args.candidates.now) ≤ length (last_of solver).out = omega (arith, out, c.in_ok-program.ensures.variables) in
-    lower-fits g (length c.args.nodes.now.members) c.args.candidates.now (last_of solver) _ can.readable
+    lower-fits g (length c.args.nodes.now.members) c.args.candidates.now (last_of solver)
+    (record { own = c.in_ok-own.own.items; next = map branch_of c.in_ok-next.next.items; informed = c.in_ok-informed.informed; end = c.run-end.result }) can.readable
     (omega (arith, c.law_game.ensures.accepted.shape.own_actions.0)) (omega (arith, c.law_game.ensures.accepted.shape.informed_actions.0)) inside
-    c.requires.candidates.some c.requires.candidates.named c.in_ok-own.ensures.own c.in_ok-next.ensures c.in_ok-informed.ensures.informed
+    c.requires.candidates.some c.requires.candidates.named c.in_ok-own.ensures.own
+    (subst (λ (own : List ℤ). AreStepsRead c.args.game.now c.args.candidates.now (last_of solver) own (map branch_of c.in_ok-next.next.items)) c.deref.ensures.value c.in_ok-next.ensures) c.in_ok-informed.ensures.informed
 
 pub returns-clause-bounded : goal.returns-clause-bounded
 returns-clause-bounded c =

@@ -1,4 +1,5 @@
-use Rattle.std.proofs.Common.{◌≡◌, ◌≤◌, length, arith}
+use Rattle.std.proofs.Common.{◌≡◌, ◌≤◌, length, map, arith}
+use Rattle.game_model.specs.Branches.{branch_of}
 use Rattle.simplex.specs.Program.{row_count, variable_count}
 use Rattle.simplex.specs.Run.{RunEnds}
 use Rattle.stage_game.specs.Advice.{most_pivots}
@@ -46,7 +47,8 @@ returns-clause-fits c =
     let can : CanBeRead solver = can-be-read program solver most_pivots c.run-end.result c.in_ok-program.ensures.serves c.run-end.ensures.last c.run-end.ensures.run in
     let out : length (last_of solver).out ≡ variable_count program = readable-out program (last_of solver) most_pivots c.run-end.result run in
     let inside : upper_variables g ≤ length (last_of solver).out = omega (arith, out, c.in_ok-program.ensures.variables) in
-    upper-fits g c.args.points.now.members c.args.candidates.now (last_of solver) _ can.readable
+    upper-fits g c.args.points.now.members c.args.candidates.now (last_of solver)
+    (record { informed = c.in_ok-informed.informed; wanted = map branch_of c.in_ok-wanted.wanted.items; own = c.in_ok-own.own.items; end = c.run-end.result }) can.readable
     (omega (arith, c.law_game.ensures.accepted.shape.states.0)) (omega (arith, c.law_game.ensures.accepted.shape.own_actions.0)) (omega (arith, c.law_game.ensures.accepted.shape.informed_actions.0))
     (omega (arith, inside)) c.requires.candidates c.in_ok-own.ensures.own c.in_ok-wanted.ensures c.in_ok-informed.ensures.informed
 

@@ -5,7 +5,8 @@ use Rattle.belief.specs.Beliefs.{mixes_for}
 use Rattle.stage_game.specs.Advice.{AreInformedRead, IsMixRead}
 use Rattle.stage_game.specs.Reading.{last_of}
 use Rattle.stage_game.specs.Fits.{MixesFit}
-use Rattle.stage_game.proofs.StateMixes.{all-mixes, informed-fit, written-back}
+use Rattle.stage_game.proofs.StateMixes.{all-mixes, informed-fit}
+use Rattle.stage_game.proofs.Vectors.{written-back, written-long}
 use Rattle.stage_game.proofs.Families.{Adds, adds-more, adds-none}
 use Rattle.stage_game.proofs.mixes.read_informed_mixes.Goals as goal
 
@@ -22,9 +23,9 @@ pub loop-s-preserved : goal.loop-s-preserved
 loop-s-preserved c =
     let mix : List ℤ = c.read_mix.new.mix in
     record {
-      prices = search rules;
-      weights = search rules;
-      mix = search rules;
+      prices = written-long c.read_mix.new.prices c.loop-s.prices.items c.loop-s.prices.len c.args.game.now.shape.informed_actions (omega arith) (omega arith);
+      weights = written-long c.read_mix.new.weights c.loop-s.weights.items c.loop-s.weights.len c.args.game.now.shape.informed_actions (omega arith) (omega arith);
+      mix = written-long c.read_mix.new.mix c.loop-s.mix.items c.loop-s.mix.len c.args.game.now.shape.informed_actions (omega arith) (omega arith);
       adds = adds-more {X = List ℤ} {Y = ℤ} (λ s mix. IsMixRead c.args.game.now (last_of c.args.solver.now) s mix) (λ mix. mix) c.loop-s.s [] c.loop-s.all.items c.extend_from_slice.new.self.items mix
           c.loop-s.invariant.adds c.read_mix.ensures.mix
           (c.in_ok-extend_from_slice.ensures.items ∙ ap (λ (xs : List ℤ). c.loop-s.all.items ++ xs) (c.deref.ensures.value ∙ written-back mix c.loop-s.mix.items c.loop-s.mix.len (omega arith)));

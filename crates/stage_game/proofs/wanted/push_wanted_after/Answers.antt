@@ -6,4 +6,4 @@ pub read_price_weights-requires-clause-rows : goal.read_price_weights-requires-c
 read_price_weights-requires-clause-rows c =
     let g = c.args.game.now in
     let inside = block-inside c.args.a c.args.o g.shape.own_actions g.shape.observations (length c.args.candidates.now) c.requires.action c.requires.observation in
-    omega (arith, inside, c.requires.rows)
+    rw (c.states.ensures, c.informed_actions.ensures, c.observations.ensures) (omega (arith, inside, c.requires.rows, c.requires.weights))
