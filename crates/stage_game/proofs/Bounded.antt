@@ -1,6 +1,6 @@
 -- A stage program is bounded: it has no direction in which its goal grows without end.
-use Rattle.std.proofs.Common.{◌≡◌, ◌⊎◌, ℕ, zero, suc, ◌<◌, ◌≤◌, ◌+◌, ◌*◌, ◌++◌, ◌/◌, ◌^◌, ◌∷◌, [], List, Bool, true, false, cond, length, map, get_or, replicate, refl, sym, subst, ap, ◌∙◌, inl, inr, arith, eq-eqb}
-use Rattle.std.specs.Prelude.{ℤ, pos, negsuc, flat_map, slice_index_or, ◌&&◌, ◌==◌, ◌+ℤ◌, ◌*ℤ◌, ◌≤ℤ◌, ◌<ℤ◌}
+use Rattle.std.proofs.Common.{◌≡◌, ℕ, zero, suc, ◌<◌, ◌++◌, ◌/◌, ◌^◌, ◌∷◌, [], List, Bool, true, false, cond, length, map, get_or, replicate, refl, sym, subst, ap, ◌∙◌, inl, inr, arith, eq-eqb}
+use Rattle.std.specs.Prelude.{ℤ, pos, negsuc, flat_map, slice_index_or, ◌&&◌, ◌==◌, ◌*ℤ◌, ◌≤ℤ◌, ◌<ℤ◌}
 use Rattle.std.specs.List.{AllByRecursion}
 use Rattle.std.proofs.lemmas.Bool.{cases_eq}
 use Rattle.std.proofs.lemmas.Int.{ints}

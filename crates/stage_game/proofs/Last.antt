@@ -1,5 +1,5 @@
 -- The last dictionary of a solver, and the values that are read from it.
-use Rattle.std.proofs.Common.{◌≡◌, ◌⊎◌, ℕ, zero, suc, ◌<◌, ◌≤◌, ◌*◌, ◌+◌, ◌^◌, [], ◌∷◌, List, length, refl, sym, ap, subst, ◌∙◌, inl, inr, arith, unsigned_abs}
+use Rattle.std.proofs.Common.{◌≡◌, ℕ, zero, suc, ◌<◌, ◌≤◌, ◌*◌, ◌+◌, ◌^◌, [], ◌∷◌, length, refl, sym, ap, subst, ◌∙◌, inl, inr, arith, unsigned_abs}
 use Rattle.std.specs.Prelude.{ℤ, pos, neg_ℤ, ◌*ℤ◌, ◌≤ℤ◌, ◌<ℤ◌, Option, Some, None, IfSome, IsSome, unwrap_or}
 use Rattle.std.specs.Int.{◌∣◌}
 use Rattle.std.proofs.lemmas.Bool.{cases_eq}
@@ -8,7 +8,7 @@ use Rattle.std.proofs.Math.Nat.{dvd-mul_right, le_of_dvd}
 use Rattle.scaled_num.proofs.Floors.{floor-none_negative, product_le, product_none_negative}
 use Rattle.scaled_num.proofs.Products.{mulℤ_comm}
 use Rattle.scaled_num.specs.Share.{IsFloor}
-use Rattle.simplex.proofs.Unique.{divisor, factor}
+use Rattle.simplex.proofs.Unique.{divisor}
 use Rattle.simplex.proofs.AlongRuns.{stays_feasible, stays_narrow}
 use Rattle.simplex.proofs.BothRuns.{run_dictionary}
 use Rattle.simplex.proofs.Optimum.{not_negative_factor, not_negative_product}
@@ -17,7 +17,7 @@ use Rattle.simplex.specs.Run.{RunEnds}
 use Rattle.simplex.specs.Solver.{State}
 use Rattle.simplex.specs.declared.End.{End}
 use Rattle.simplex.specs.declared.Program.{Program}
-use Rattle.simplex.specs.Dictionary.{AreCoprime, Dictionary, IsDictionary, number}
+use Rattle.simplex.specs.Dictionary.{AreCoprime, Dictionary, number}
 use Rattle.simplex.specs.Reading.{IsLowest, IsPrice, IsPrimal}
 use Rattle.stage_game.specs.Reading.{CanBeRead, IsReadable, last_of, no_dictionary, weight_end}
 

@@ -1,15 +1,15 @@
 -- What is read from a lower program's run fits.
-use Rattle.std.proofs.Common.{◌≡◌, ◌⊎◌, ℕ, zero, suc, ◌<◌, ◌≤◌, ◌+◌, ◌*◌, ◌∷◌, [], List, Bool, true, false, cond, length, map, refl, sym, subst, ap, ◌∙◌, inl, inr, arith}
-use Rattle.std.specs.Prelude.{ℤ, pos, filter, slice_index, unsigned_abs, ◌+ℤ◌, ◌≤ℤ◌, ◌<ℤ◌}
+use Rattle.std.proofs.Common.{◌≡◌, ℕ, ◌<◌, ◌≤◌, ◌+◌, ◌*◌, ◌∷◌, [], List, Bool, true, false, cond, length, refl, sym, subst, ap, ◌∙◌, arith}
+use Rattle.std.specs.Prelude.{ℤ, pos, filter, unsigned_abs, ◌+ℤ◌, ◌≤ℤ◌}
 use Rattle.std.specs.List.{AllByRecursion}
 use Rattle.std.proofs.lemmas.Bool.{ltb-false, ltb-true}
 use Rattle.std.proofs.lemmas.Int.{ints}
 use Rattle.std.proofs.Math.Nat.{mul-le-mul_right}
-use Rattle.scaled_num.proofs.Floors.{NoneNegative, at_le_sum}
+use Rattle.scaled_num.proofs.Floors.{NoneNegative}
 use Rattle.scaled_num.proofs.Sums.{each-at, total-map, total-places}
 use Rattle.scaled_num.specs.Share.{at}
 use Rattle.scaled_num.specs.Sums.{below, sum_of, total}
-use Rattle.alpha_set.specs.Nodes.{IsMix, NodeData}
+use Rattle.alpha_set.specs.Nodes.{IsMix}
 use Rattle.game_model.specs.Branches.{AreBranches, Branch, IsBranch, branches_at, mix_total}
 use Rattle.game_model.specs.Game.{GameData, IsWithin, numbers}
 use Rattle.simplex.specs.Dictionary.{Dictionary}
@@ -17,9 +17,8 @@ use Rattle.stage_game.specs.Advice.{AreInformedRead, AreStepsAfter, AreStepsRead
 use Rattle.stage_game.specs.AdviceData.{LowerAdviceData, first_going_on, has_weight, listed, listed_one}
 use Rattle.stage_game.specs.Asked.{AreNamed, lower_variables}
 use Rattle.stage_game.specs.Fits.{LowerFits}
-use Rattle.stage_game.specs.Masses.{over_pairs}
 use Rattle.stage_game.specs.Reading.{IsReadable}
-use Rattle.stage_game.proofs.Placed.{AllBefore, ArePlaced, IsAt, before-filter, branches-of-pair, each-filter, each-weaker, listed-at, listed-before, map-each, over-pairs-each, over-pairs-rising}
+use Rattle.stage_game.proofs.Placed.{AllBefore, IsAt, before-filter, branches-of-pair, each-filter, each-weaker, listed-at, listed-before, map-each, over-pairs-each, over-pairs-rising}
 use Rattle.stage_game.proofs.ReadWeights.{own-mix, primal-low}
 use Rattle.stage_game.proofs.SharedTotals.{ArePartsOf, parts-within, shared-parts}
 use Rattle.stage_game.proofs.StateMixes.{informed-fit}

@@ -1,22 +1,21 @@
 -- Advice is one: what is read from the last dictionary of a program's run is a function of the program.
-use Rattle.std.proofs.Common.{◌≡◌, ℕ, ◌<◌, ◌≤◌, ◌+◌, ◌*◌, ◌∷◌, [], List, length, map, refl, sym, subst, ap, ap₂, ◌∙◌, arith}
+use Rattle.std.proofs.Common.{◌≡◌, ℕ, ◌<◌, ◌≤◌, ◌+◌, ◌*◌, ◌∷◌, List, length, map, sym, subst, ap, ap₂, ◌∙◌, arith}
 use Rattle.std.specs.Prelude.{ℤ, pos, filter, flat_map, slice_index, ◌*ℤ◌}
-use Rattle.std.proofs.lemmas.Int.{ints}
 use Rattle.std.proofs.lemmas.List.{ext_get_or}
 use Rattle.std.proofs.Math.Nat.{mul-le-mul_right}
 use Rattle.point_set.proofs.OneShare.{floor-one, shared-one}
 use Rattle.scaled_num.specs.Share.{IsFloor, IsShared, at}
 use Rattle.scaled_num.specs.Sums.{below}
-use Rattle.alpha_set.specs.Nodes.{IsMix, NodeData}
+use Rattle.alpha_set.specs.Nodes.{NodeData}
 use Rattle.belief.specs.Mixes.{MixesData}
 use Rattle.game_model.specs.Branches.{Branch, mix_total}
-use Rattle.game_model.specs.Game.{GameData, IsWithin}
+use Rattle.game_model.specs.Game.{GameData}
 use Rattle.point_set.specs.Points.{PointData}
 use Rattle.simplex.proofs.AlongRuns.{one_end}
 use Rattle.simplex.proofs.OneReading.{one_price, one_primal}
 use Rattle.simplex.proofs.SameNumbers.{end_same}
-use Rattle.simplex.specs.Dictionary.{Dictionary, IsDictionary}
-use Rattle.simplex.specs.Program.{IsProgram, program_data, row_count, variable_count}
+use Rattle.simplex.specs.Dictionary.{Dictionary}
+use Rattle.simplex.specs.Program.{program_data, row_count, variable_count}
 use Rattle.simplex.specs.Run.{RunEnds}
 use Rattle.simplex.specs.declared.End.{End}
 use Rattle.simplex.specs.declared.Program.{Program}

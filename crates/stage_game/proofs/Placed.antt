@@ -1,13 +1,12 @@
 -- Branches that are written pair by pair: of an own action and an observation in order, and of rising members there.
-use Rattle.std.proofs.Common.{◌≡◌, ◌⊎◌, ℕ, zero, suc, ◌<◌, ◌≤◌, ◌+◌, ◌++◌, ◌∷◌, [], List, Bool, true, false, cond, length, map, refl, sym, subst, ap, ap₂, ◌∙◌, inl, inr, arith, eq-eqb}
-use Rattle.std.specs.Prelude.{ℤ, pos, filter, flat_map, slice_index, ◌&&◌, ◌==◌, ◌+ℤ◌}
+use Rattle.std.proofs.Common.{◌≡◌, ℕ, zero, suc, ◌<◌, ◌≤◌, ◌+◌, ◌++◌, ◌∷◌, [], List, Bool, true, false, cond, length, map, refl, sym, ap, ap₂, ◌∙◌, inl, inr, arith, eq-eqb}
+use Rattle.std.specs.Prelude.{ℤ, filter, flat_map, slice_index, ◌&&◌, ◌==◌}
 use Rattle.std.specs.List.{AllByRecursion, range_with_len}
 use Rattle.std.proofs.lemmas.Bool.{cases_eq, ne_eqb}
 use Rattle.std.proofs.lemmas.List.{append-nil}
 use Rattle.std.proofs.lemmas.List.Elements.{filter-append}
 use Rattle.scaled_num.proofs.Sums.{below-each, each-append, each-flat_map, from-each}
-use Rattle.scaled_num.specs.Share.{at}
-use Rattle.scaled_num.specs.Sums.{below, total}
+use Rattle.scaled_num.specs.Sums.{below}
 use Rattle.game_model.specs.Branches.{AreRising, Branch, IsBranchBefore, branches_at}
 use Rattle.game_model.specs.Game.{GameData}
 use Rattle.stage_game.specs.AdviceData.{listed, listed_one}

@@ -1,18 +1,16 @@
 -- Weights that are read are not negative, and mixes that are shared by them sum to the mix total.
-use Rattle.std.proofs.Common.{◌≡◌, ℕ, ◌<◌, ◌≤◌, ◌+◌, ◌*◌, List, length, map, refl, sym, subst, ap, ◌∙◌, arith}
+use Rattle.std.proofs.Common.{◌≡◌, ℕ, ◌<◌, ◌≤◌, ◌+◌, ◌*◌, List, length, sym, subst, ap, ◌∙◌, arith}
 use Rattle.std.specs.Prelude.{ℤ, pos, ◌*ℤ◌, ◌≤ℤ◌}
-use Rattle.std.specs.List.{AllByRecursion}
 use Rattle.std.proofs.lemmas.Int.{ints}
 use Rattle.scaled_num.proofs.Floors.{All-at, NoneNegative, floor-none_negative, product_none_negative}
 use Rattle.scaled_num.specs.Share.{at}
-use Rattle.scaled_num.specs.Sums.{sum_of}
 use Rattle.alpha_set.specs.Nodes.{IsMix}
 use Rattle.game_model.specs.Branches.{mix_total}
-use Rattle.game_model.specs.Game.{GameData, IsGame}
+use Rattle.game_model.specs.Game.{GameData}
 use Rattle.simplex.specs.Dictionary.{Dictionary}
 use Rattle.stage_game.specs.Advice.{IsMixRead, IsOwnRead}
-use Rattle.stage_game.specs.Reading.{ArePriceWeights, ArePrimalWeights, IsPrimalWeight, IsReadable, shifted, weight_end}
-use Rattle.stage_game.proofs.Last.{IsRead, value-read}
+use Rattle.stage_game.specs.Reading.{ArePriceWeights, ArePrimalWeights, IsPrimalWeight, IsReadable, weight_end}
+use Rattle.stage_game.proofs.Last.{value-read}
 use Rattle.stage_game.proofs.SharedTotals.{ArePartsOf, parts-within, shared-parts}
 use Rattle.stage_game.proofs.Shifted.{left-not-negative, length-left}
 

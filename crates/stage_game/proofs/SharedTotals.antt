@@ -1,12 +1,12 @@
 -- A total that is shared by weights is shared whole, into parts of 0 to the total.
-use Rattle.std.proofs.Common.{◌≡◌, ◌⊎◌, ℕ, zero, suc, ◌<◌, ◌-◌, ◌∷◌, List, length, replicate, refl, sym, subst, ap, ◌∙◌, inl, inr, arith, set}
+use Rattle.std.proofs.Common.{◌≡◌, ◌⊎◌, ℕ, zero, suc, ◌<◌, ◌-◌, ◌∷◌, List, length, replicate, refl, sym, subst, ap, inl, inr, arith}
 use Rattle.std.specs.Prelude.{ℤ, pos, negsuc, ◌+ℤ◌, ◌-ℤ◌, ◌≤ℤ◌, ◌<ℤ◌}
 use Rattle.std.specs.List.{AllByRecursion}
 use Rattle.std.proofs.lemmas.Int.{ints}
 use Rattle.std.proofs.Math.ListN.{length-set}
 use Rattle.game_model.specs.Game.{IsWithin}
 use Rattle.scaled_num.proofs.Each.{each-by-place}
-use Rattle.scaled_num.proofs.Floors.{All-at, All-to_recursion, All-from_recursion, NoneNegative, at_le_sum, floors-none_negative, floors-sum, replicate-none_negative, set-none_negative, sum-none_negative, sum-zeros, topped-sum}
+use Rattle.scaled_num.proofs.Floors.{All-at, NoneNegative, at_le_sum, floors-none_negative, floors-sum, replicate-none_negative, set-none_negative, sum-none_negative, sum-zeros, topped-sum}
 use Rattle.scaled_num.specs.Share.{AreToppedFloors, IsShared, at}
 use Rattle.scaled_num.specs.Sums.{sum_of}
 

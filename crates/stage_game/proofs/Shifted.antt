@@ -1,6 +1,6 @@
 -- How far a list of prices is shifted, and the weights that this leaves.
-use Rattle.std.proofs.Common.{◌≡◌, ◌⊎◌, ℕ, zero, suc, ◌<◌, ◌≤◌, ◌+◌, ◌*◌, ◌/◌, ◌^◌, ◌∷◌, [], List, length, map, refl, sym, subst, ap, ◌∙◌, inl, inr, arith, below_more}
-use Rattle.std.specs.Prelude.{ℤ, pos, ◌≤ℤ◌, slice_index}
+use Rattle.std.proofs.Common.{◌≡◌, ◌⊎◌, ℕ, zero, suc, ◌<◌, ◌≤◌, ◌+◌, ◌*◌, ◌/◌, ◌^◌, ◌∷◌, [], List, length, map, refl, ap, inl, inr, arith, below_more}
+use Rattle.std.specs.Prelude.{pos, ◌≤ℤ◌, slice_index}
 use Rattle.std.specs.List.{AllByRecursion}
 use Rattle.std.proofs.lemmas.Int.{ints}
 use Rattle.std.proofs.Math.Nat.{div-mul-le_self, mul-le-mul_left, pow-le-pow_right}

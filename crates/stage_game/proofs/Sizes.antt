@@ -1,5 +1,5 @@
 -- How many rows and variables stage programs have.
-use Rattle.std.proofs.Common.{◌≡◌, ℕ, zero, suc, ◌<◌, ◌≤◌, ◌+◌, ◌*◌, ◌^◌, ◌++◌, ◌∷◌, [], List, length, map, replicate, refl, sym, ap, ◌∙◌, arith}
+use Rattle.std.proofs.Common.{◌≡◌, ℕ, zero, suc, ◌<◌, ◌≤◌, ◌+◌, ◌*◌, ◌^◌, ◌++◌, ◌∷◌, [], List, length, map, replicate, refl, ap, ◌∙◌, arith}
 use Rattle.std.specs.Prelude.{ℤ, pos, flat_map}
 use Rattle.std.proofs.lemmas.List.{length-append, length-map}
 use Rattle.std.proofs.lemmas.List.FromFn.{length-map-range_with_len, length-range_with_len}
@@ -14,7 +14,7 @@ use Rattle.simplex.specs.declared.Program.{Program}
 use Rattle.stage_game.specs.Asked.{lower_rows, lower_variables, upper_rows, upper_variables}
 use Rattle.stage_game.specs.LowerProgram.{going_on_row, lower_program, lower_worth_row}
 use Rattle.stage_game.specs.Masses.{over_pairs}
-use Rattle.stage_game.specs.Scaling.{goal_at, stage_program, worth_rows}
+use Rattle.stage_game.specs.Scaling.{goal_at, worth_rows}
 use Rattle.stage_game.specs.UpperProgram.{point_row, upper_program, upper_worth_row}
 use Rattle.stage_game.specs.Variables.{GoesOn, Plays, ProgramData, Variable, WorthOf, program_data, variables}
 use Rattle.stage_game.proofs.Families.{blocks-long}

@@ -1,14 +1,14 @@
 -- Mixes of all states, one behind another, are mixes.
-use Rattle.std.proofs.Common.{◌≡◌, ℕ, zero, suc, ◌<◌, ◌≤◌, ◌+◌, ◌*◌, ◌++◌, ◌∷◌, [], List, length, get_or, refl, sym, subst, ap, ◌∙◌, arith}
-use Rattle.std.specs.Prelude.{ℤ, pos, flat_map, ◌≤ℤ◌, ◌+ℤ◌}
+use Rattle.std.proofs.Common.{◌≡◌, ℕ, zero, suc, ◌<◌, ◌+◌, ◌*◌, ◌++◌, [], List, length, refl, sym, subst, ap, ◌∙◌, arith}
+use Rattle.std.specs.Prelude.{ℤ, pos, flat_map}
 use Rattle.std.specs.List.{AllByRecursion, range_with_len}
-use Rattle.std.proofs.lemmas.List.{get_or-append-add, length-append}
+use Rattle.std.proofs.lemmas.List.{get_or-append-add}
 use Rattle.std.proofs.Math.ListN.{get_or-append}
 use Rattle.scaled_num.proofs.Sums.{below-each, each-flat_map, total-below, total-places}
 use Rattle.scaled_num.specs.Share.{at}
-use Rattle.scaled_num.specs.Sums.{below, sum_of, total}
+use Rattle.scaled_num.specs.Sums.{below, total}
 use Rattle.belief.specs.Beliefs.{mixes_for}
-use Rattle.belief.specs.Mixes.{AreMixes, MixesData, mix_at}
+use Rattle.belief.specs.Mixes.{AreMixes, MixesData}
 use Rattle.game_model.specs.Branches.{mix_total}
 use Rattle.game_model.specs.Game.{GameData, IsWithin}
 use Rattle.simplex.specs.Dictionary.{Dictionary}

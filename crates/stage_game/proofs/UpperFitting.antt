@@ -1,15 +1,13 @@
 -- What is read from an upper program's run fits.
-use Rattle.std.proofs.Common.{◌≡◌, ◌⊎◌, ℕ, zero, suc, ◌<◌, ◌≤◌, ◌+◌, ◌*◌, ◌∷◌, [], List, Bool, true, false, cond, length, map, get_or, refl, sym, subst, ap, ◌∙◌, inl, inr, arith}
-use Rattle.std.specs.Prelude.{ℤ, pos, filter, not, slice_index, ◌≤ℤ◌, ◌<ℤ◌}
+use Rattle.std.proofs.Common.{◌≡◌, ◌⊎◌, ℕ, zero, suc, ◌<◌, ◌≤◌, ◌+◌, ◌∷◌, [], List, Bool, true, false, cond, length, map, refl, sym, subst, ap, ◌∙◌, inl, inr, arith}
+use Rattle.std.specs.Prelude.{ℤ, pos, filter, not, slice_index}
 use Rattle.std.specs.List.{AllByRecursion, range_with_len}
-use Rattle.std.proofs.lemmas.Int.{ints}
-use Rattle.std.proofs.lemmas.List.{ext_get_or, length-map}
+use Rattle.std.proofs.lemmas.List.{ext_get_or}
 use Rattle.std.proofs.lemmas.List.FromFn.{get_or-map-range_with_len, length-map-range_with_len}
 use Rattle.scaled_num.proofs.Sums.{below-each, each-at}
 use Rattle.scaled_num.specs.Share.{at}
 use Rattle.scaled_num.specs.Sums.{below}
-use Rattle.alpha_set.specs.Nodes.{IsMix}
-use Rattle.game_model.specs.Branches.{AreRising, Branch, branches_at}
+use Rattle.game_model.specs.Branches.{AreRising, Branch}
 use Rattle.game_model.specs.Game.{GameData, IsWithin}
 use Rattle.point_set.proofs.Counted.{few-items}
 use Rattle.point_set.proofs.Rests.{corner-is}
@@ -23,7 +21,7 @@ use Rattle.stage_game.specs.Asked.{AreUpperEnds, IsOneCorner}
 use Rattle.stage_game.specs.Fits.{IsPlaced, UpperFits, wanted_at}
 use Rattle.stage_game.specs.Reading.{IsReadable, weight_end}
 use Rattle.stage_game.specs.UpperCandidates.{is_at_corner}
-use Rattle.stage_game.proofs.Placed.{AllBefore, ArePlaced, IsAt, branches-of-pair, each-weaker, listed-at, listed-before, map-each, over-pairs-each, over-pairs-rising, rising-at}
+use Rattle.stage_game.proofs.Placed.{AllBefore, IsAt, branches-of-pair, each-weaker, listed-at, listed-before, map-each, over-pairs-each, over-pairs-rising, rising-at}
 use Rattle.stage_game.proofs.ReadWeights.{own-mix, prices-long}
 use Rattle.stage_game.proofs.Shifted.{left-within}
 use Rattle.stage_game.proofs.StateMixes.{informed-fit}

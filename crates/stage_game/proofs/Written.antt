@@ -15,7 +15,6 @@ use Rattle.game_model.specs.Game.{GameData}
 use Rattle.simplex.specs.Dictionary.{Dictionary}
 use Rattle.stage_game.specs.Advice.{AreStepsAfter, AreStepsRead, AreWantedAfter, AreWantedRead}
 use Rattle.stage_game.specs.AdviceData.{has_weight}
-use Rattle.stage_game.specs.Masses.{over_pairs}
 use Rattle.stage_game.specs.Passed.{AddsSteps, AddsWanted}
 use Rattle.stage_game.proofs.Families.{Adds}
 

@@ -128,7 +128,16 @@ pub fn read_steps(
     let mut shares = vec![in alloc; 0; candidates.len()]?;
     let mut next = Vec::new(alloc);
     for a in 0..game.own_actions() {
-        push_steps_of(solver, game, candidates, own, a, &mut weights, &mut shares, &mut next)?;
+        push_steps_of(
+            solver,
+            game,
+            candidates,
+            own,
+            a,
+            &mut weights,
+            &mut shares,
+            &mut next,
+        )?;
     }
     Ok(next)
 }

@@ -118,7 +118,15 @@ pub fn read_wanted(
     let mut weights = vec![in alloc; 0; candidates.len()]?;
     let mut wanted = Vec::new(alloc);
     for a in 0..game.own_actions() {
-        push_wanted_of(solver, game, candidates, a, &mut prices, &mut weights, &mut wanted)?;
+        push_wanted_of(
+            solver,
+            game,
+            candidates,
+            a,
+            &mut prices,
+            &mut weights,
+            &mut wanted,
+        )?;
     }
     Ok(wanted)
 }

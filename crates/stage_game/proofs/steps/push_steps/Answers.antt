@@ -1,4 +1,4 @@
-use Rattle.std.proofs.Common.{of_z, rules, ◌≡◌, ◌∙◌, ◌++◌, ◌∷◌, [], ℕ, List, ap, get_or, refl}
+use Rattle.std.proofs.Common.{of_z, rules, ◌≡◌, ◌∙◌, ◌++◌, ◌∷◌, [], ℕ, List, ap, get_or}
 use Rattle.std.specs.Prelude.{ℤ, pos, FitsSigned, map}
 use Rattle.std.specs.Int.{w128}
 use Rattle.std.proofs.lemmas.Int.{to_z-of_z}

@@ -2,9 +2,8 @@ use Rattle.std.proofs.Common.{◌^◌, ◌<◌, ℤ, pos, ◌*ℤ◌, ◌≤ℤ�
 use Rattle.std.specs.Int.{w128}
 use Rattle.std.proofs.lemmas.Int.{ints}
 use Rattle.scaled_num.proofs.Floors.{product_none_negative, small_fits}
-use Rattle.scaled_num.specs.Share.{IsFloor}
 use Rattle.simplex.specs.Reading.{IsPrimal}
-use Rattle.stage_game.specs.Reading.{last_of, weight_end}
+use Rattle.stage_game.specs.Reading.{last_of}
 use Rattle.stage_game.proofs.Last.{IsRead, at-last, value-read, weight-within}
 use Rattle.stage_game.proofs.weights.primal_weight.Goals as goal
 

@@ -1,4 +1,4 @@
-use Rattle.std.proofs.Common.{◌≡◌, ◌≢◌, ◌<◌, ◌+◌, ℕ, ℤ, List, FitsSigned, length, pos, sym, subst, below_more, get_or-set_other, rules, to_z, of_z, to_z-of_z, arith}
+use Rattle.std.proofs.Common.{◌≢◌, ◌<◌, ◌+◌, ℕ, ℤ, List, FitsSigned, length, pos, sym, subst, below_more, get_or-set_other, rules, to_z, of_z, to_z-of_z, arith}
 use Rattle.std.specs.Int.{w128}
 use Rattle.std.proofs.lemmas.List.{get_or-set_same}
 use Rattle.stage_game.specs.Reading.{last_of}
