@@ -79,7 +79,7 @@ one-number f own n a l here there =
 abbrev IsOther : ℕ → ℕ → ℕ × ℕ → Type 0
 IsOther a o p = p.0 ≡ a → p.1 ≡ o → ⊥
 
-abbrev beside : ℕ → List ℕ → List (ℕ × ℕ)
+abbrev pub beside : ℕ → List ℕ → List (ℕ × ℕ)
 beside i ys = map (λ j. (i, j)) ys
 
 pub record PairParts (m n a o : ℕ) : Type 0 where
@@ -91,11 +91,11 @@ pub record PairParts (m n a o : ℕ) : Type 0 where
   pub before_long : length before ≡ a * n + o
   pub after_long : length after ≡ m * n - (a * n + o) - 1
 
-length-beside : (i : ℕ) (ys : List ℕ) → length (beside i ys) ≡ length ys
+pub length-beside : (i : ℕ) (ys : List ℕ) → length (beside i ys) ≡ length ys
 length-beside i [] = refl
 length-beside i (y ∷ ys) = ap suc (length-beside i ys)
 
-length-rows : (n : ℕ) (xs : List ℕ) → length (flat_map (λ i. beside i (below n)) xs) ≡ length xs * n
+pub length-rows : (n : ℕ) (xs : List ℕ) → length (flat_map (λ i. beside i (below n)) xs) ≡ length xs * n
 length-rows n [] = omega arith
 length-rows n (x ∷ xs) =
     length-append (beside x (below n)) (flat_map (λ i. beside i (below n)) xs)

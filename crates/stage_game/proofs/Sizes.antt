@@ -1,7 +1,8 @@
 -- How large the numbers of stage programs are: nothing negative is divided, and no quotient is above the scale.
 use Rattle.std.proofs.Common.{◌≡◌, ℕ, zero, suc, ◌+◌, ◌-◌, ◌*◌, ◌^◌, ◌<◌, ◌≤◌, max, refl, ap, arith, sym, ◌∙◌, subst}
-use Rattle.std.specs.Prelude.{ℤ, pos, negsuc, neg_ℤ, ◌+ℤ◌, ◌*ℤ◌, ◌≤ℤ◌, ◌<ℤ◌, unsigned_abs}
-use Rattle.std.proofs.lemmas.Int.{ints}
+use Rattle.std.specs.Prelude.{ℤ, pos, negsuc, neg_ℤ, ◌+ℤ◌, ◌*ℤ◌, ◌≤ℤ◌, ◌<ℤ◌, unsigned_abs, FitsSigned}
+use Rattle.std.specs.Int.{w128}
+use Rattle.std.proofs.lemmas.Int.{ints, fits_signed_from_abs}
 use Rattle.std.proofs.lemmas.Nat.{mul-le}
 use Rattle.std.proofs.Math.Nat.{mul-le-mul_left, mul-le-mul_right}
 use Rattle.scaled_num.proofs.Products.{magnitude-is}
@@ -186,3 +187,13 @@ worth-quotient g h bits few value (pos w) some most low high =
   where
     plain : (i v w : ℕ) → i ≤ 2 * (v * w) → i ≤ max 1 (2 * v) * w
     plain i v w l = let up : 2 * v * w ≤ max 1 (2 * v) * w = mul-le-mul_right w (omega arith) in omega arith
+
+-- numbers and products that the code forms fit
+pub number-fits : (a : ℤ) (m : ℕ) → a ≡ pos m → m ≤ 2 ^ 120 → FitsSigned w128 a
+number-fits a m e h = subst (λ (z : ℤ). FitsSigned w128 z) (sym e) (fits_signed_from_abs w128 (pos m) (omega arith))
+
+pub product-is : (a b : ℤ) (m n : ℕ) → a ≡ pos m → b ≡ pos n → a *ℤ b ≡ pos (m * n)
+product-is a b m n e f = ap (λ (z : ℤ). z *ℤ b) e ∙ ap (λ (z : ℤ). pos m *ℤ z) f
+
+pub product-fits : (a b : ℤ) (m n : ℕ) → a ≡ pos m → b ≡ pos n → m * n ≤ 2 ^ 120 → FitsSigned w128 (a *ℤ b)
+product-fits a b m n e f h = number-fits (a *ℤ b) (m * n) (product-is a b m n e f) h

@@ -27,10 +27,10 @@ pub fn push_worth_rows(
     bits: u32,
     rows: &mut Vec<Vec<i128>>,
 ) -> Result<(), AllocError>
-    requires nodes { NodesServe game.now nodes.now }
-    requires candidates { AreLowerEnds nodes.now candidates.now }
+    requires nodes { NodesServe game.now nodes.now.members }
+    requires candidates { AreLowerEnds nodes.now.members candidates.now }
     requires bits { AreBits bits }
-    ensures { OnOk result (map (λ row. row.items) rows.new.items ≡ map (λ row. row.items) rows.old.items ++ map (λ number. map number (variables game.now candidates.now)) (worth_rows game.now (lower_worth_row game.now bits nodes.now))) }
+    ensures { OnOk result (map (λ row. row.items) rows.new.items ≡ map (λ row. row.items) rows.old.items ++ map (λ number. map number (variables game.now candidates.now)) (worth_rows game.now (lower_worth_row game.now bits nodes.now.members))) }
 {
     law_game(game);
     let places = all_pairs(alloc, game.states(), game.informed_actions())?;
@@ -54,13 +54,13 @@ fn worth_row(
     c: u32,
     after: &[(u32, u32)],
 ) -> Result<Vec<i128>, AllocError>
-    requires nodes { NodesServe game.now nodes.now }
-    requires candidates { AreLowerEnds nodes.now candidates.now }
+    requires nodes { NodesServe game.now nodes.now.members }
+    requires candidates { AreLowerEnds nodes.now.members candidates.now }
     requires bits { AreBits bits }
     requires state { s < game.now.shape.states }
     requires informed { c < game.now.shape.informed_actions }
     requires after { after.now ≡ pairs game.now.shape.own_actions game.now.shape.observations }
-    ensures { IfOk result (λ row. row.items ≡ map (lower_worth_row game.now bits nodes.now s c) (variables game.now candidates.now)) }
+    ensures { IfOk result (λ row. row.items ≡ map (lower_worth_row game.now bits nodes.now.members s c) (variables game.now candidates.now)) }
 {
     let mut row = Vec::with_capacity(alloc, variable_count(game, candidates.len()))?;
     push_unit(s, game.states(), &mut row)?;
@@ -100,14 +100,14 @@ fn push_block(
     o: u32,
     row: &mut Vec<i128>,
 ) -> Result<(), AllocError>
-    requires nodes { NodesServe game.now nodes.now }
-    requires candidates { AreLowerEnds nodes.now candidates.now }
+    requires nodes { NodesServe game.now nodes.now.members }
+    requires candidates { AreLowerEnds nodes.now.members candidates.now }
     requires bits { AreBits bits }
     requires state { s < game.now.shape.states }
     requires own { a < game.now.shape.own_actions }
     requires informed { c < game.now.shape.informed_actions }
     requires observation { o < game.now.shape.observations }
-    ensures { OnOk result (row.new.items ≡ row.old.items ++ map (λ k. neg_ℤ (node_brings game.now bits nodes.now s a c o k)) candidates.now) }
+    ensures { OnOk result (row.new.items ≡ row.old.items ++ map (λ k. neg_ℤ (node_brings game.now bits nodes.now.members s a c o k)) candidates.now) }
 {
     law_game(game);
     let (over, under) = game.discount();

@@ -24,9 +24,16 @@ pub fn push_unit(place: u32, count: u32, row: &mut Vec<i128>) -> Result<(), Allo
     ensures { OnOk result (row.new.items ≡ row.old.items ++ map (λ t. cond (t == place) (pos 1) (pos 0)) (below count)) }
 {
     for i in 0..count {
-        row.push(i128::from(i == place))?;
+        row.push(one_at(i, place))?;
     }
     Ok(())
+}
+
+/// 1 at a place, and 0 elsewhere.
+fn one_at(i: u32, place: u32) -> i128
+    ensures { result ≡ cond (i == place) (pos 1) (pos 0) }
+{
+    if i == place { 1 } else { 0 }
 }
 
 /// The row of the mix: 1 at each own action.

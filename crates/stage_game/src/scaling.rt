@@ -4,7 +4,7 @@ ghost use Rattle.game_model.specs.Game.{IsWithin};
 ghost use Rattle.stage_game.specs.Asked.{AreBits, BeliefFits};
 ghost use Rattle.stage_game.specs.Scaling.{ceil_of, floor_of, goal_at, most_scale, paid_above, pay_width, scale, width};
 ghost use Rattle.stage_game.specs.Variables.{WorthOf};
-ghost use Rattle.std.specs.Prelude.{neg_ℤ, pos, ◌<ℤ◌, ◌<◌, ◌^◌, ◌≡◌, ◌≤ℤ◌};
+ghost use Rattle.std.specs.Prelude.{max, neg_ℤ, pos, unsigned_abs, ◌*◌, ◌<ℤ◌, ◌<◌, ◌^◌, ◌≡◌, ◌≤ℤ◌};
 
 use belief::Belief;
 use game_model::{Game, UNITS, law_game};
@@ -24,7 +24,16 @@ pub fn width_of(game: &Game) -> i128
     ensures { result ≡ width game.now }
 {
     law_game(game);
-    (2 * game.span()).max(1)
+    width_from(game.span())
+}
+
+/// Twice the span, at least 1.
+fn width_from(span: i128) -> i128
+    requires low { pos 0 ≤ℤ span }
+    requires high { span ≤ℤ pos (2 ^ 66) }
+    ensures { result ≡ pos (max 1 (2 * unsigned_abs span)) }
+{
+    if span == 0 { 1 } else { 2 * span }
 }
 
 /// What a stage pays at once, raised so that it is never negative, and scaled.

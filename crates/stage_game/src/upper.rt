@@ -130,10 +130,10 @@ pub fn push_point_rows(
     bits: u32,
     rows: &mut Vec<Vec<i128>>,
 ) -> Result<(), AllocError>
-    requires points { PointsServe game.now points.now }
-    requires candidates { AreUpperEnds game.now points.now candidates.now }
+    requires points { PointsServe game.now points.now.members }
+    requires candidates { AreUpperEnds game.now points.now.members candidates.now }
     requires bits { AreBits bits }
-    ensures { OnOk result (map (λ row. row.items) rows.new.items ≡ map (λ row. row.items) rows.old.items ++ map (λ number. map number (variables game.now (below game.now.shape.states))) (over_pairs game.now (λ a o. map (λ k. point_row game.now bits (point_at points.now k) a o) candidates.now))) }
+    ensures { OnOk result (map (λ row. row.items) rows.new.items ≡ map (λ row. row.items) rows.old.items ++ map (λ number. map number (variables game.now (below game.now.shape.states))) (over_pairs game.now (λ a o. map (λ k. point_row game.now bits (point_at points.now.members k) a o) candidates.now))) }
 {
     law_game(game);
     let after = all_pairs(alloc, game.own_actions(), game.observations())?;
@@ -173,10 +173,10 @@ fn all_parts(
     candidates: &[u32],
     bits: u32,
 ) -> Result<Vec<PointPart>, AllocError>
-    requires points { PointsServe game.now points.now }
-    requires candidates { AreUpperEnds game.now points.now candidates.now }
+    requires points { PointsServe game.now points.now.members }
+    requires candidates { AreUpperEnds game.now points.now.members candidates.now }
     requires bits { AreBits bits }
-    ensures { IfOk result (λ parts. map part_data parts.items ≡ map (λ k. part_of game.now bits (point_at points.now k)) candidates.now) }
+    ensures { IfOk result (λ parts. map part_data parts.items ≡ map (λ k. part_of game.now bits (point_at points.now.members k)) candidates.now) }
 {
     let mut parts = Vec::with_capacity(alloc, candidates.len())?;
     for k in candidates {
