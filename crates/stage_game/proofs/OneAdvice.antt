@@ -27,7 +27,7 @@ use Rattle.stage_game.specs.Reading.{AreCountedPrices, ArePriceWeights, ArePrima
 use Rattle.stage_game.proofs.Families.{flat_map-below}
 use Rattle.stage_game.proofs.LowerFitting.{block-inside}
 use Rattle.stage_game.proofs.Last.{readable-basic, readable-out, run-readable}
-use Rattle.stage_game.proofs.Sizes.{lower-rows, lower-variables, upper-rows, upper-variables}
+use Rattle.stage_game.proofs.RowCounts.{lower-rows, lower-variables, upper-rows, upper-variables}
 use Rattle.stage_game.proofs.StateMixes.{same-mixes}
 use Rattle.stage_game.proofs.ReadWeights.{prices-low, primal-low}
 

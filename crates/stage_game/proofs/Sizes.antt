@@ -1,105 +1,199 @@
--- How many rows and variables stage programs have.
-use Rattle.std.proofs.Common.{◌≡◌, ℕ, zero, suc, ◌<◌, ◌≤◌, ◌+◌, ◌*◌, ◌^◌, ◌++◌, ◌∷◌, [], List, length, map, replicate, refl, ap, ◌∙◌, arith}
-use Rattle.std.specs.Prelude.{ℤ, pos, flat_map}
-use Rattle.std.proofs.lemmas.List.{length-append, length-map}
-use Rattle.std.proofs.lemmas.List.FromFn.{length-map-range_with_len, length-range_with_len}
-use Rattle.std.proofs.Math.Nat.{mul-le-mul}
-use Rattle.scaled_num.specs.Sums.{below}
-use Rattle.alpha_set.specs.Nodes.{NodeData}
-use Rattle.game_model.specs.Game.{GameData, IsShape}
-use Rattle.point_set.specs.Corners.{point_at}
-use Rattle.point_set.specs.Points.{PointData}
-use Rattle.simplex.specs.Program.{row_count, variable_count}
-use Rattle.simplex.specs.declared.Program.{Program}
-use Rattle.stage_game.specs.Asked.{lower_rows, lower_variables, upper_rows, upper_variables}
-use Rattle.stage_game.specs.LowerProgram.{going_on_row, lower_program, lower_worth_row}
-use Rattle.stage_game.specs.Masses.{over_pairs}
-use Rattle.stage_game.specs.Scaling.{goal_at, worth_rows}
-use Rattle.stage_game.specs.UpperProgram.{point_row, upper_program, upper_worth_row}
-use Rattle.stage_game.specs.Variables.{GoesOn, Plays, ProgramData, Variable, WorthOf, program_data, variables}
-use Rattle.stage_game.proofs.Families.{blocks-long}
+-- How large the numbers of stage programs are: nothing negative is divided, and no quotient is above the scale.
+use Rattle.std.proofs.Common.{◌≡◌, ℕ, zero, suc, ◌+◌, ◌-◌, ◌*◌, ◌^◌, ◌<◌, ◌≤◌, max, refl, ap, arith, sym, ◌∙◌, subst}
+use Rattle.std.specs.Prelude.{ℤ, pos, negsuc, neg_ℤ, ◌+ℤ◌, ◌*ℤ◌, ◌≤ℤ◌, ◌<ℤ◌, unsigned_abs, FitsSigned}
+use Rattle.std.specs.Int.{w128}
+use Rattle.std.proofs.lemmas.Int.{ints, fits_signed_from_abs}
+use Rattle.std.proofs.lemmas.Nat.{mul-le}
+use Rattle.std.proofs.Math.Nat.{mul-le-mul_left, mul-le-mul_right}
+use Rattle.scaled_num.proofs.Products.{magnitude-is}
+use Rattle.game_model.specs.Game.{GameData, IsGame, numbers, reward_at, span, unit}
+use Rattle.game_model.proofs.Games.{keeps-span}
+use Rattle.game_model.proofs.Worth.{span-small}
+use Rattle.alpha_set.proofs.Wide.{wide}
+use Rattle.stage_game.specs.Scaling.{most_scale, paid_above, pay_width, scale, width}
 
-pairs-long : {X : Type 0} (g : GameData) (f : ℕ → ℕ → List X) (count : ℕ) → ((a o : ℕ) → length (f a o) ≡ count) → length (over_pairs g f) ≡ g.shape.own_actions * (g.shape.observations * count)
-pairs-long g f count h =
-    blocks-long (λ a. flat_map (λ o. f a o) (below g.shape.observations)) (g.shape.observations * count) 0 g.shape.own_actions
-    (λ a l. blocks-long (λ o. f a o) count 0 g.shape.observations (λ o l. h a o))
+abbrev pub whole : GameData → ℕ
+whole g = unsigned_abs g.shape.row_total
 
-variables-long : (g : GameData) (ends : List ℕ) → length (variables g ends) ≡ g.shape.states + g.shape.own_actions + g.shape.own_actions * g.shape.observations * length ends
-variables-long g ends =
-    let going : List Variable = over_pairs g (λ a o. map (GoesOn a o) ends) in
-    omega (
-      arith,
-      length-append (map WorthOf (below g.shape.states)) (map Plays (below g.shape.own_actions) ++ going),
-      length-append (map Plays (below g.shape.own_actions)) going,
-      length-map-range_with_len WorthOf 0 g.shape.states,
-      length-map-range_with_len Plays 0 g.shape.own_actions,
-      pairs-long g (λ a o. map (GoesOn a o) ends) (length ends) (λ a o. length-map ends (GoesOn a o)),
-    )
+abbrev pub over : GameData → ℕ
+over g = unsigned_abs g.shape.discount.0
 
-worth-long : (g : GameData) (row : ℕ → ℕ → Variable → ℤ) → length (worth_rows g row) ≡ g.shape.states * g.shape.informed_actions
-worth-long g row =
-    blocks-long (λ s. map (λ c. row s c) (below g.shape.informed_actions)) g.shape.informed_actions 0 g.shape.states
-    (λ s l. length-map-range_with_len (λ c. row s c) 0 g.shape.informed_actions)
+abbrev pub under : GameData → ℕ
+under g = unsigned_abs g.shape.discount.1
 
-limits-long : (count : ℕ) → length (replicate count (pos 0) ++ pos 1 ∷ []) ≡ count + 1
-limits-long zero = refl
-limits-long (suc count) = ap suc (limits-long count) ∙ omega arith
+-- the width as a number
+abbrev pub wideness : GameData → ℕ
+wideness g = max 1 (2 * span g)
 
-program-variables : (p : Program) (data_of : ProgramData) → program_data p ≡ data_of → variable_count p ≡ length data_of.goal
-program-variables p data_of e = ap (λ (d : ProgramData). length d.goal) e
+-- the limits of a game as bounds of plain numbers
+pub record Limits (g : GameData) : Type 0 where
+  pub row_total : g.shape.row_total ≡ pos (whole g)
+  pub numerator : g.shape.discount.0 ≡ pos (over g)
+  pub denominator : g.shape.discount.1 ≡ pos (under g)
+  pub some_whole : 1 ≤ whole g
+  pub whole_small : whole g ≤ 2 ^ 30
+  pub below : over g < under g
+  pub under_small : under g ≤ 2 ^ 20
+  pub span_small : span g ≤ 2 ^ 66
+  pub rule : whole g * span g * under g ≤ 2 ^ 88
 
-program-rows : (p : Program) (data_of : ProgramData) → program_data p ≡ data_of → row_count p ≡ length data_of.limits
-program-rows p data_of e = ap (λ (d : ProgramData). length d.limits) e
+pub limits : (g : GameData) → IsGame g → Limits g
+limits g h =
+    let d = h.shape.row_total.0 in
+    let e = h.shape.row_total.1 in
+    let p = h.shape.discount.0 in
+    let q = h.shape.discount.1 in
+    let u = h.shape.discount.2 in
+    record {
+      row_total = magnitude-is g.shape.row_total (omega (arith, ints));
+      numerator = magnitude-is g.shape.discount.0 p;
+      denominator = magnitude-is g.shape.discount.1 (omega (arith, ints));
+      some_whole = omega (arith, ints);
+      whole_small = omega (arith, ints);
+      below = omega (arith, ints);
+      under_small = omega (arith, ints);
+      span_small = span-small g h;
+      rule = wide g h;
+    }
 
-pub lower-variables : (p : Program) (g : GameData) (belief : List ℤ) (nodes : List NodeData) (candidates : List ℕ) (bits : ℕ) → program_data p ≡ lower_program g belief nodes candidates bits
-    → variable_count p ≡ lower_variables g (length candidates)
-lower-variables p g belief nodes candidates bits e =
-    program-variables p (lower_program g belief nodes candidates bits) e ∙ length-map (variables g candidates) (goal_at belief bits) ∙ variables-long g candidates
+-- a scaled number of times at most the width: positive divisor, not negative, at most the scale times the divisor
+pub record IsQuotient (k : ℕ) (a b : ℤ) : Type 0 where
+  pub divisor : pos 0 <ℤ b
+  pub low : pos 0 ≤ℤ a
+  pub high : a ≤ℤ (pos k *ℤ b)
+  pub small : unsigned_abs a ≤ 2 ^ 110
+  pub divisor_small : unsigned_abs b ≤ 2 ^ 100
 
-pub lower-rows : (p : Program) (g : GameData) (belief : List ℤ) (nodes : List NodeData) (candidates : List ℕ) (bits : ℕ) → program_data p ≡ lower_program g belief nodes candidates bits
-    → row_count p ≡ lower_rows g
-lower-rows p g belief nodes candidates bits e =
-    let worth : List (Variable → ℤ) = worth_rows g (lower_worth_row g bits nodes) in
-    let going : List (Variable → ℤ) = over_pairs g (λ a o. going_on_row a o ∷ []) in
-    program-rows p (lower_program g belief nodes candidates bits) e ∙ limits-long (length (worth ++ going))
-    ∙ (let all : length (worth ++ going) + 1 ≡ lower_rows g =
-    omega (arith, length-append worth going, worth-long g (lower_worth_row g bits nodes), pairs-long g (λ a o. going_on_row a o ∷ []) 1 (λ a o. refl)) in all)
+quotient-of : (k n m : ℕ) → 1 ≤ m → n ≤ k * m → n ≤ 2 ^ 110 → m ≤ 2 ^ 100 → IsQuotient k (pos n) (pos m)
+quotient-of k n m some most small divisor_small = record {
+  divisor = omega (arith, ints);
+  low = omega (arith, ints);
+  high = omega (arith, ints);
+  small = small;
+  divisor_small = divisor_small;
+}
 
-pub upper-variables : (p : Program) (g : GameData) (belief : List ℤ) (points : List PointData) (candidates : List ℕ) (bits : ℕ) → program_data p ≡ upper_program g belief points candidates bits
-    → variable_count p ≡ upper_variables g
-upper-variables p g belief points candidates bits e =
-    program-variables p (upper_program g belief points candidates bits) e ∙ length-map (variables g (below g.shape.states)) (goal_at belief bits) ∙ variables-long g (below g.shape.states)
-    ∙ ap (λ (n : ℕ). g.shape.states + g.shape.own_actions + g.shape.own_actions * g.shape.observations * n) (length-range_with_len 0 g.shape.states)
+-- what a stage pays, raised, is at least 0 and at most twice what the span loses by the discount
+pub paid-bounds : (r : ℤ) (u q v l : ℕ) → u * unsigned_abs r * q ≤ v * l → (pos 0 ≤ℤ (pos (u * q) *ℤ r +ℤ pos (v * l))) × (unsigned_abs (pos (u * q) *ℤ r +ℤ pos (v * l)) ≤ 2 * (v * l))
+paid-bounds (pos r) u q v l h =
+    let e : pos (u * q) *ℤ pos r ≡ pos (u * r * q) = ap pos (omega arith) in
+    (omega (arith, ints, e), omega (arith, ints, e))
+paid-bounds (negsuc r) u q v l h =
+    let e : pos (u * q) *ℤ negsuc r ≡ neg_ℤ (pos (u * suc r * q)) = turned (u * q) r ∙ ap (λ (n : ℕ). neg_ℤ (pos n)) (omega arith) in
+    (omega (arith, ints, e), omega (arith, ints, e))
+  where
+    turned : (k r : ℕ) → pos k *ℤ negsuc r ≡ neg_ℤ (pos (k * suc r))
+    turned k r = omega (arith, ints)
 
-pub upper-rows : (p : Program) (g : GameData) (belief : List ℤ) (points : List PointData) (candidates : List ℕ) (bits : ℕ) → program_data p ≡ upper_program g belief points candidates bits
-    → row_count p ≡ upper_rows g (length candidates)
-upper-rows p g belief points candidates bits e =
-    let worth : List (Variable → ℤ) = worth_rows g (upper_worth_row g bits) in
-    let after : ℕ → ℕ → List (Variable → ℤ) = λ a o. map (λ k. point_row g bits (point_at points k) a o) candidates in
-    program-rows p (upper_program g belief points candidates bits) e ∙ limits-long (length (worth ++ over_pairs g after))
-    ∙ (let all : length (worth ++ over_pairs g after) + 1 ≡ upper_rows g (length candidates) =
-    omega (
-      arith,
-      length-append worth (over_pairs g after),
-      worth-long g (upper_worth_row g bits),
-      pairs-long g after (length candidates) (λ a o. length-map candidates (λ k. point_row g bits (point_at points k) a o)),
-    ) in all)
+pub paid-quotient : (g : GameData) → IsGame g → (bits s a c : ℕ) → 2 ^ bits ≤ most_scale → s < g.shape.states → a < g.shape.own_actions → c < g.shape.informed_actions →
+    IsQuotient (2 ^ bits) (paid_above g bits s a c) (pay_width g)
+paid-quotient g h bits s a c few ls la lc =
+    let n = limits g h in
+    let v : ℕ = span g in
+    let q : ℕ = under g in
+    let l : ℕ = q - over g in
+    let k : ℕ = 2 ^ bits in
+    let inner : ℤ = pos (unit * q) *ℤ reward_at g s a c +ℤ pos (v * l) in
+    let b = paid-bounds (reward_at g s a c) unit q v l ((keeps-span g h).rewards s a c ls la lc) in
+    let most : unsigned_abs inner ≤ 2 * (v * l) = b.1 in
+    let is : paid_above g bits s a c ≡ pos (k * unsigned_abs inner) = ap (λ (z : ℤ). pos k *ℤ z) (magnitude-is inner b.0) in
+    let less : v * l ≤ v * q = mul-le-mul_left v (omega arith) in
+    let upto : unsigned_abs inner ≤ q * wideness g = plain (unsigned_abs inner) v l q most less in
+    let all : k * unsigned_abs inner ≤ k * (q * wideness g) = mul-le-mul_left k upto in
+    let some : 1 ≤ q * wideness g = mul-le 1 1 q (wideness g) (omega arith) (omega arith) in
+    let span_size : v * q ≤ 2 ^ 66 * 2 ^ 20 = mul-le v q (2 ^ 66) (2 ^ 20) n.span_small n.under_small in
+    let whole_size : k * unsigned_abs inner ≤ 2 ^ 10 * (2 * (2 ^ 66 * 2 ^ 20)) = mul-le k (unsigned_abs inner) (2 ^ 10) (2 * (2 ^ 66 * 2 ^ 20)) few (omega arith) in
+    let width_size : q * wideness g ≤ 2 ^ 20 * 2 ^ 68 = mul-le q (wideness g) (2 ^ 20) (2 ^ 68) n.under_small (omega arith) in
+    let made : IsQuotient k (pos (k * unsigned_abs inner)) (pos (q * wideness g)) = quotient-of k (k * unsigned_abs inner) (q * wideness g) some all (omega arith) (omega arith) in
+    subst (λ (z : ℤ). IsQuotient k z (pay_width g)) (sym is) made
+  where
+    plain : (i v l q : ℕ) → i ≤ 2 * (v * l) → v * l ≤ v * q → i ≤ q * max 1 (2 * v)
+    plain i v l q most less = let up : q * (2 * v) ≤ q * max 1 (2 * v) = mul-le-mul_left q (omega arith) in omega arith
 
--- ---- all of it is small
-product-le : (a b most other : ℕ) → a ≤ most → b ≤ other → a * b ≤ most * other
-product-le a b most other p q = mul-le-mul p q
+pub width-small : (g : GameData) → IsGame g → whole g * under g * wideness g ≤ 2 ^ 90
+width-small g h =
+    let n = limits g h in
+    let both : whole g * under g ≤ 2 ^ 30 * 2 ^ 20 = mul-le (whole g) (under g) (2 ^ 30) (2 ^ 20) n.whole_small n.under_small in
+    plain (whole g) (under g) (span g) n.rule both
+  where
+    plain : (d q v : ℕ) → d * v * q ≤ 2 ^ 88 → d * q ≤ 2 ^ 50 → d * q * max 1 (2 * v) ≤ 2 ^ 90
+    plain d q v rule both =
+        let up : d * q * max 1 (2 * v) ≤ d * q * (1 + 2 * v) = mul-le-mul_left (d * q) (omega arith) in
+        omega arith
 
-pub lower-small : (g : GameData) (count : ℕ) → IsShape g.shape → count ≤ 16 → (lower_variables g count < 2 ^ 32) × (lower_rows g < 2 ^ 32)
-lower-small g count shape few =
-    let pairs : g.shape.own_actions * g.shape.observations ≤ 6 * 8 = product-le g.shape.own_actions g.shape.observations 6 8 shape.own_actions.1 shape.observations.1 in
-    let going : g.shape.own_actions * g.shape.observations * count ≤ 48 * 16 = product-le (g.shape.own_actions * g.shape.observations) count 48 16 pairs few in
-    let worth : g.shape.states * g.shape.informed_actions ≤ 16 * 6 = product-le g.shape.states g.shape.informed_actions 16 6 shape.states.1 shape.informed_actions.1 in
-    (omega (arith, shape.states.1, shape.own_actions.1), omega arith)
+-- what going on with a node brings, where the entries raised by the span and averaged give n
+pub brings-quotient : (g : GameData) → IsGame g → (bits : ℕ) → 2 ^ bits ≤ most_scale → (sum : ℤ) → pos 0 ≤ℤ sum → unsigned_abs sum ≤ whole g * (2 * span g) →
+    IsQuotient (2 ^ bits) (scale bits *ℤ pos (over g) *ℤ sum) (pos (whole g * under g) *ℤ width g)
+brings-quotient g h bits few sum low high =
+    let n = limits g h in
+    let k : ℕ = 2 ^ bits in
+    let i : ℕ = unsigned_abs sum in
+    let is : scale bits *ℤ pos (over g) *ℤ sum ≡ pos (k * over g * i) = ap (λ (z : ℤ). pos (k * over g) *ℤ z) (magnitude-is sum low) in
+    let some : 1 ≤ whole g * under g * wideness g = mul-le 1 1 (whole g * under g) (wideness g) (mul-le 1 1 (whole g) (under g) n.some_whole (omega arith)) (omega arith) in
+    let first : over g * i ≤ under g * (whole g * (2 * span g)) = mul-le (over g) i (under g) (whole g * (2 * span g)) (omega arith) high in
+    let upto : over g * i ≤ whole g * under g * wideness g = plain (over g * i) (whole g) (under g) (span g) first in
+    let all : k * over g * i ≤ k * (whole g * under g * wideness g) = turned k (over g) i (whole g * under g * wideness g) (mul-le-mul_left k upto) in
+    let size : k * (over g * i) ≤ 2 ^ 10 * 2 ^ 90 = mul-le k (over g * i) (2 ^ 10) (2 ^ 90) few (omega (arith, width-small g h)) in
+    let made : IsQuotient k (pos (k * over g * i)) (pos (whole g * under g * wideness g)) =
+    quotient-of k (k * over g * i) (whole g * under g * wideness g) some all (omega arith) (omega (arith, width-small g h)) in
+    subst (λ (z : ℤ). IsQuotient k z (pos (whole g * under g) *ℤ width g)) (sym is) made
+  where
+    plain : (x d q v : ℕ) → x ≤ q * (d * (2 * v)) → x ≤ d * q * max 1 (2 * v)
+    plain x d q v l = let up : d * q * (2 * v) ≤ d * q * max 1 (2 * v) = mul-le-mul_left (d * q) (omega arith) in omega arith
 
-pub upper-small : (g : GameData) (count : ℕ) → IsShape g.shape → count ≤ 24 → (upper_variables g < 2 ^ 32) × (upper_rows g count < 2 ^ 32)
-upper-small g count shape few =
-    let pairs : g.shape.own_actions * g.shape.observations ≤ 6 * 8 = product-le g.shape.own_actions g.shape.observations 6 8 shape.own_actions.1 shape.observations.1 in
-    let going : g.shape.own_actions * g.shape.observations * count ≤ 48 * 24 = product-le (g.shape.own_actions * g.shape.observations) count 48 24 pairs few in
-    let next : g.shape.own_actions * g.shape.observations * g.shape.states ≤ 48 * 16 = product-le (g.shape.own_actions * g.shape.observations) g.shape.states 48 16 pairs shape.states.1 in
-    let worth : g.shape.states * g.shape.informed_actions ≤ 16 * 6 = product-le g.shape.states g.shape.informed_actions 16 6 shape.states.1 shape.informed_actions.1 in
-    (omega (arith, shape.states.1, shape.own_actions.1), omega arith)
+    turned : (k p i m : ℕ) → k * (p * i) ≤ k * m → k * p * i ≤ k * m
+    turned k p i m l = omega arith
+
+-- what going on with a next state of this weight brings
+pub state-quotient : (g : GameData) → IsGame g → (bits : ℕ) → 2 ^ bits ≤ most_scale → (weight : ℕ) → weight ≤ whole g →
+    IsQuotient (2 ^ bits) (scale bits *ℤ pos (over g * weight)) (pos (under g * whole g))
+state-quotient g h bits few weight light =
+    let n = limits g h in
+    let k : ℕ = 2 ^ bits in
+    let upto : over g * weight ≤ under g * whole g = mul-le (over g) weight (under g) (whole g) (omega arith) light in
+    let divisor : under g * whole g ≤ 2 ^ 20 * 2 ^ 30 = mul-le (under g) (whole g) (2 ^ 20) (2 ^ 30) n.under_small n.whole_small in
+    let some : 1 ≤ under g * whole g = mul-le 1 1 (under g) (whole g) (omega arith) n.some_whole in
+    let size : k * (over g * weight) ≤ 2 ^ 10 * (2 ^ 20 * 2 ^ 30) = mul-le k (over g * weight) (2 ^ 10) (2 ^ 20 * 2 ^ 30) few (omega arith) in
+    quotient-of k (k * (over g * weight)) (under g * whole g) some (mul-le-mul_left k upto) (omega arith) (omega arith)
+
+-- a part of a belief over its total
+pub share-quotient : (bits : ℕ) → 2 ^ bits ≤ most_scale → (part whole : ℤ) → pos 0 ≤ℤ part → part ≤ℤ whole → pos 1 ≤ℤ whole → whole ≤ℤ pos (2 ^ 20) →
+    IsQuotient (2 ^ bits) (scale bits *ℤ part) whole
+share-quotient bits few (pos p) (pos w) low high some most =
+    let size : 2 ^ bits * p ≤ 2 ^ 10 * 2 ^ 20 = mul-le (2 ^ bits) p (2 ^ 10) (2 ^ 20) few (omega (arith, ints)) in
+    let upto : p ≤ w = omega (arith, ints) in
+    quotient-of (2 ^ bits) (2 ^ bits * p) w (omega (arith, ints)) (mul-le-mul_left (2 ^ bits) upto) (omega arith) (omega (arith, ints))
+share-quotient bits few (pos p) (negsuc w) low high some most = absurd (omega (arith, ints))
+share-quotient bits few (negsuc p) whole low high some most = absurd (omega (arith, ints))
+
+-- what a point's belief is worth over its total, where its value is within the span
+pub worth-quotient : (g : GameData) → IsGame g → (bits : ℕ) → 2 ^ bits ≤ most_scale → (value whole : ℤ) → pos 1 ≤ℤ whole → whole ≤ℤ pos (2 ^ 20) →
+    neg_ℤ (pos (span g) *ℤ whole) ≤ℤ value → value ≤ℤ (pos (span g) *ℤ whole) →
+    IsQuotient (2 ^ bits) (scale bits *ℤ (value +ℤ pos (span g) *ℤ whole)) (width g *ℤ whole)
+worth-quotient g h bits few value (negsuc w) some most low high = absurd (omega (arith, ints))
+worth-quotient g h bits few value (pos w) some most low high =
+    let n = limits g h in
+    let k : ℕ = 2 ^ bits in
+    let raised : ℤ = value +ℤ pos (span g * w) in
+    let i : ℕ = unsigned_abs raised in
+    let is : scale bits *ℤ raised ≡ pos (k * i) = ap (λ (z : ℤ). pos k *ℤ z) (magnitude-is raised (omega (arith, ints))) in
+    let double : i ≤ 2 * (span g * w) = omega (arith, ints) in
+    let upto : i ≤ wideness g * w = plain i (span g) w double in
+    let some_width : 1 ≤ wideness g * w = mul-le 1 1 (wideness g) w (omega arith) (omega (arith, ints)) in
+    let width_size : wideness g * w ≤ 2 ^ 68 * 2 ^ 20 = mul-le (wideness g) w (2 ^ 68) (2 ^ 20) (omega arith) (omega (arith, ints)) in
+    let size : k * i ≤ 2 ^ 10 * (2 ^ 68 * 2 ^ 20) = mul-le k i (2 ^ 10) (2 ^ 68 * 2 ^ 20) few (omega arith) in
+    let made : IsQuotient k (pos (k * i)) (pos (wideness g * w)) = quotient-of k (k * i) (wideness g * w) some_width (mul-le-mul_left k upto) (omega arith) (omega arith) in
+    subst (λ (z : ℤ). IsQuotient k z (pos (wideness g * w))) (sym is) made
+  where
+    plain : (i v w : ℕ) → i ≤ 2 * (v * w) → i ≤ max 1 (2 * v) * w
+    plain i v w l = let up : 2 * v * w ≤ max 1 (2 * v) * w = mul-le-mul_right w (omega arith) in omega arith
+
+-- numbers and products that the code forms fit
+pub number-fits : (a : ℤ) (m : ℕ) → a ≡ pos m → m ≤ 2 ^ 120 → FitsSigned w128 a
+number-fits a m e h = subst (λ (z : ℤ). FitsSigned w128 z) (sym e) (fits_signed_from_abs w128 (pos m) (omega arith))
+
+pub product-is : (a b : ℤ) (m n : ℕ) → a ≡ pos m → b ≡ pos n → a *ℤ b ≡ pos (m * n)
+product-is a b m n e f = ap (λ (z : ℤ). z *ℤ b) e ∙ ap (λ (z : ℤ). pos m *ℤ z) f
+
+pub product-fits : (a b : ℤ) (m n : ℕ) → a ≡ pos m → b ≡ pos n → m * n ≤ 2 ^ 120 → FitsSigned w128 (a *ℤ b)
+product-fits a b m n e f h = number-fits (a *ℤ b) (m * n) (product-is a b m n e f) h

@@ -7,7 +7,7 @@ use Rattle.stage_game.specs.Asked.{upper_variables}
 use Rattle.stage_game.specs.Reading.{CanBeRead, last_of}
 use Rattle.stage_game.proofs.Bounded.{upper-not-unbounded}
 use Rattle.stage_game.proofs.Last.{at-last, can-be-read, readable-out}
-use Rattle.stage_game.proofs.Sizes.{upper-small}
+use Rattle.stage_game.proofs.RowCounts.{upper-small}
 use Rattle.stage_game.proofs.UpperFitting.{few-candidates, upper-fits}
 use Rattle.stage_game.proofs.advice.upper_advice.Goals as goal
 
