@@ -7,7 +7,7 @@ use Rattle.std.proofs.lemmas.Nat.{mul-le}
 use Rattle.std.proofs.lemmas.List.{get_or-set_same, get_or-set_other, length-set}
 use Rattle.std.proofs.lemmas.Bool.Decides.{eqb_tells}
 use Rattle.alpha_set.specs.Members.{brought, entry_at, table_place}
-use Rattle.alpha_set.specs.declared.nodes.Step.{Step as StepParts}
+use Rattle.game_model.specs.declared.branches.Branch.{Branch as StepParts}
 use Rattle.scaled_num.proofs.Products.{abs-add}
 
 -- the first entries of the vector were added

@@ -8,16 +8,16 @@ use Rattle.std.proofs.lemmas.List.{take_all}
 use Rattle.std.proofs.lemmas.List.Sums.{sum_by-cons, sum_by-take-le}
 use Rattle.scaled_num.specs.Sums.{total}
 use Rattle.scaled_num.proofs.Sums.{each-at}
-use Rattle.game_model.specs.Branches.{Branch, IsBranch, branches_at, mix_total}
+use Rattle.game_model.specs.Branches.{Branch, IsBranch, branch_of, branches_at, mix_total}
 use Rattle.game_model.specs.Game.{GameData, IsGame, IsWithin, numbers, span}
 use Rattle.game_model.proofs.Games.{weight-abs}
 use Rattle.game_model.proofs.Pay.{each-from}
 use Rattle.game_model.proofs.Sizes.{total-more}
 use Rattle.game_model.proofs.Worth.{span-small, total-bound}
 use Rattle.alpha_set.specs.Nodes.{NodeData, NodeFits, Step, no_node, node_of, nodes_of, step_of, steps_worth}
-use Rattle.alpha_set.specs.Members.{HoldsWorths, IsMember, IsTable, branch_of, brought, data_of, entry_at, most_nodes, node_data, table_length, table_place}
+use Rattle.alpha_set.specs.Members.{HoldsWorths, IsMember, IsTable, brought, data_of, entry_at, most_nodes, node_data, table_length, table_place}
 use Rattle.alpha_set.specs.declared.nodes.Node.{Node as NodeParts}
-use Rattle.alpha_set.specs.declared.nodes.Step.{Step as StepParts}
+use Rattle.game_model.specs.declared.branches.Branch.{Branch as StepParts}
 use Rattle.scaled_num.proofs.Each.{each-of-map, get-map}
 
 each-take : {X : Type 0} (P : X → Type 0) (i : ℕ) (xs : List X) → AllByRecursion P xs → AllByRecursion P (take i xs)

@@ -2,16 +2,12 @@
 use Rattle.std.specs.Prelude.{ℕ, ℤ, pos, List, length, map, cond, unsigned_abs, slice_index_or, ◌≡◌, ◌+◌, ◌*◌, ◌+ℤ◌, ◌*ℤ◌, ◌≤ℤ◌, ◌<◌, ◌≤◌, ◌==◌, ◌&&◌}
 use Rattle.std.specs.List.{AllByRecursion}
 use Rattle.scaled_num.specs.Sums.{below, total}
-use Rattle.game_model.specs.Branches.{Branch, mix_total}
+use Rattle.game_model.specs.Branches.{Branch, branch_of, mix_total}
 use Rattle.game_model.specs.Game.{GameData, span, unit}
 use Rattle.game_model.specs.Numbers.{Numbers, over_row}
 use Rattle.alpha_set.specs.Nodes.{Node, NodeData, NodeFits, steps_worth}
 use Rattle.alpha_set.specs.declared.nodes.Node.{Node as NodeParts}
-use Rattle.alpha_set.specs.declared.nodes.Step.{Step as StepParts}
-
--- a step as a branch
-abbrev pub branch_of : StepParts → Branch
-branch_of step = record { own = step.a; seen = step.o; member = step.k; weight = step.weight }
+use Rattle.game_model.specs.declared.branches.Branch.{Branch as StepParts}
 
 -- a node as data
 abbrev pub node_data : NodeParts → NodeData

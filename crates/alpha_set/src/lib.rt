@@ -9,5 +9,6 @@ mod tables;
 mod tests;
 mod worth;
 
-pub use nodes::{Node, Step};
+pub use game_model::Branch as Step;
+pub use nodes::Node;
 pub use sets::{MOST_NODES, NodeSet, PushFault};

@@ -1,16 +1,18 @@
+//! The set of a controller's nodes.
+
 ghost use Rattle.alpha_set.specs.Faults.{NodeFailsFirst};
 ghost use Rattle.alpha_set.specs.Members.{most_nodes, node_data};
 ghost use Rattle.alpha_set.specs.Nodes.{NodeFits, NodeStands, no_node, nodes_of};
 ghost use Rattle.alpha_set.specs.Worth.{AreWeighed, IsWorth};
 ghost use Rattle.game_model.specs.Game.{numbers};
 ghost use Rattle.std.specs.List.{AllByRecursion};
-ghost use Rattle.std.specs.Prelude.{IfOk, IfSome, IsErrOf, IsNone, OnErr, OnOk, [], length, slice_index_or, ◌++◌, ◌<◌, ◌↔◌, ◌∷◌, ◌≡◌, ◌≤◌};
+ghost use Rattle.std.specs.Prelude.{IfOk, IfSome, IsErrOf, IsNone, IsOk, OnErr, OnOk, [], length, slice_index_or, vec_capacity, vec_len, ◌++◌, ◌+◌, ◌<◌, ◌↔◌, ◌∷◌, ◌≡◌, ◌≤◌};
 
 use crate::nodes::Node;
 use crate::stands::first_fault;
 use crate::worth::{are_narrow, greatest};
 use game_model::Game;
-use std::alloc::Global;
+use std::alloc::{AllocError, Global};
 use std::marker::Model;
 
 /// The most nodes of a set.
@@ -37,12 +39,13 @@ impl Model for NodeSet {
     ghost use Rattle.alpha_set.specs.Members.{data_of, most_nodes, node_data};
     ghost use Rattle.alpha_set.specs.Nodes.{NodeData};
     ghost use Rattle.alpha_set.specs.Products.{HaveNarrowEntries};
+    ghost use Rattle.game_model.specs.Sets.{SetData};
     ghost use Rattle.std.specs.Bool.{IsTrue};
-    ghost use Rattle.std.specs.Prelude.{List, length, map, ◌≤◌};
+    ghost use Rattle.std.specs.Prelude.{length, map, vec_capacity, vec_len, ◌-◌, ◌≤◌};
 
-    ghost Value = { List NodeData };
+    ghost Value = { SetData NodeData };
 
-    ghost view = { λ set. map node_data set.nodes.items };
+    ghost view = { λ set. record { members = map node_data set.nodes.items; spare = vec_capacity set.nodes - vec_len set.nodes } };
 
     ghost invariant = { λ set. (length set.nodes.items ≤ most_nodes) × (IsTrue set.narrow → HaveNarrowEntries (data_of set.nodes.items)) };
 }
@@ -50,7 +53,8 @@ impl Model for NodeSet {
 impl NodeSet {
     /// A set for the nodes of a game, empty at first. It takes no memory yet.
     pub fn new(alloc: Global, _game: &Game) -> NodeSet
-        ensures { result ≡ [] }
+        ensures none { result.members ≡ [] }
+        ensures no_spare { result.spare ≡ 0 }
     {
         NodeSet {
             nodes: Vec::new(alloc),
@@ -60,16 +64,16 @@ impl NodeSet {
 
     /// The number of nodes.
     pub fn len(&self) -> u32
-        ensures count { result ≡ length self.now }
-        ensures few { length self.now ≤ most_nodes }
+        ensures count { result ≡ length self.now.members }
+        ensures few { length self.now.members ≤ most_nodes }
     {
         self.nodes.len() as u32
     }
 
     /// The node of a number.
     pub fn node(&self, i: u32) -> &Node
-        requires { i < length self.now }
-        ensures { node_data result.now ≡ slice_index_or self.now i no_node }
+        requires { i < length self.now.members }
+        ensures { node_data result.now ≡ slice_index_or self.now.members i no_node }
     {
         &self.nodes[i as usize]
     }
@@ -81,30 +85,45 @@ impl NodeSet {
     /// `Full` where the set has 1,024 nodes. `OutOfMemory` where no memory is to be had. A refusal drops the node and
     /// leaves the set as it was.
     pub fn push(&mut self, node: Node) -> Result<u32, PushFault>
-        ensures full { IsErrOf result PushFault.Full ↔ (length self.old ≡ most_nodes) }
-        ensures added { OnOk result (self.new ≡ self.old ++ node_data node ∷ []) }
-        ensures number { IfOk result (λ number. number ≡ length self.old) }
+        ensures full { IsErrOf result PushFault.Full ↔ (length self.old.members ≡ most_nodes) }
+        ensures added { OnOk result (self.new.members ≡ self.old.members ++ node_data node ∷ []) }
+        ensures number { IfOk result (λ number. number ≡ length self.old.members) }
         ensures unchanged { OnErr result (self.new ≡ self.old) }
+        ensures room { 1 ≤ self.old.spare → length self.old.members < most_nodes → IsOk result }
+        ensures lowers { 1 ≤ self.old.spare → OnOk result (self.new.spare + 1 ≡ self.old.spare) }
     {
         if self.nodes.len() == MOST_NODES {
             return Err(PushFault::Full);
         }
-        let number = self.nodes.len() as u32;
-        let narrow = self.narrow && are_narrow(&node.vector);
-        if self.nodes.push(node).is_err() {
+        if make_room(&mut self.nodes, 1).is_err() {
             return Err(PushFault::OutOfMemory);
         }
-        self.narrow = narrow;
+        let number = self.nodes.len() as u32;
+        self.narrow = self.narrow && are_narrow(&node.vector);
+        self.nodes.push_reserved(node);
         Ok(number)
+    }
+
+    /// Takes memory for so many more nodes, where the set has none to spare for them.
+    ///
+    /// # Errors
+    ///
+    /// Where no memory is to be had. A refusal leaves the set as it was.
+    pub fn reserve(&mut self, more: u32) -> Result<(), AllocError>
+        ensures members { self.new.members ≡ self.old.members }
+        ensures spare { OnOk result (more ≤ self.new.spare) }
+        ensures unchanged { OnErr result (self.new ≡ self.old) }
+    {
+        make_room(&mut self.nodes, more as usize)
     }
 
     /// What the nodes are worth at a mass: the greatest product of a node's vector with the mass, and the first node
     /// that has it. The nodes fit one game, and the mass is over its states, with a total of at most 2^36 times the
     /// row total. It takes no memory.
     pub fn worth(&self, mass: &[i128]) -> (i128, u32)
-        requires some { 1 ≤ length self.now }
-        requires weighed { AreWeighed self.now mass.now }
-        ensures { IsWorth self.now mass.now result.0 result.1 }
+        requires some { 1 ≤ length self.now.members }
+        requires weighed { AreWeighed self.now.members mass.now }
+        ensures { IsWorth self.now.members mass.now result.0 result.1 }
     {
         greatest(&self.nodes, self.narrow, mass)
     }
@@ -112,12 +131,27 @@ impl NodeSet {
     /// Whether a node stands: None where the node rule holds at every state and informed action. Else the first of
     /// these, in rising order, at which it fails. It takes no memory.
     pub fn stands(&self, game: &Game, i: u32) -> Option<(u32, u32)>
-        requires member { i < length self.now }
-        requires fits { AllByRecursion (NodeFits game.now most_nodes) self.now }
-        requires named { AllByRecursion (λ step. step.member < length self.now) (slice_index_or self.now i no_node).next }
-        ensures none { IsNone result ↔ NodeStands (numbers game.now) (nodes_of self.now) (nodes_of self.now i) }
-        ensures first { IfSome result (λ place. NodeFailsFirst (numbers game.now) (nodes_of self.now) (nodes_of self.now i) place.0 place.1) }
+        requires member { i < length self.now.members }
+        requires fits { AllByRecursion (NodeFits game.now most_nodes) self.now.members }
+        requires named { AllByRecursion (λ step. step.member < length self.now.members) (slice_index_or self.now.members i no_node).next }
+        ensures none { IsNone result ↔ NodeStands (numbers game.now) (nodes_of self.now.members) (nodes_of self.now.members i) }
+        ensures first { IfSome result (λ place. NodeFailsFirst (numbers game.now) (nodes_of self.now.members) (nodes_of self.now.members i) place.0 place.1) }
     {
         first_fault(game, &self.nodes, &self.nodes[i as usize])
     }
+}
+
+/// Makes room for so many more nodes; where there is room, nothing changes.
+fn make_room(nodes: &mut Vec<Node>, more: usize) -> Result<(), AllocError>
+    ensures items { nodes.new.items ≡ nodes.old.items }
+    ensures count { vec_len nodes.new ≡ vec_len nodes.old }
+    ensures room { OnOk result (vec_len nodes.new + more ≤ vec_capacity nodes.new) }
+    ensures has { vec_len nodes.old + more ≤ vec_capacity nodes.old → IsOk result }
+    ensures same { vec_len nodes.old + more ≤ vec_capacity nodes.old → vec_capacity nodes.new ≡ vec_capacity nodes.old }
+    ensures unchanged { OnErr result (vec_capacity nodes.new ≡ vec_capacity nodes.old) }
+{
+    if more <= nodes.capacity() - nodes.len() {
+        return Ok(());
+    }
+    nodes.reserve(more)
 }

@@ -6,8 +6,8 @@ ghost use Rattle.game_model.specs.Numbers.{over_row};
 ghost use Rattle.std.specs.List.{AllByRecursion};
 ghost use Rattle.std.specs.Prelude.{length, pos, replicate, unsigned_abs, ℕ, ◌*◌, ◌+ℤ◌, ◌<◌, ◌^◌, ◌≡◌, ◌≤◌};
 
-use crate::nodes::{Node, Step};
-use game_model::{Game, MOST_ACTIONS, MOST_OBSERVATIONS, MOST_STATES, law_game};
+use crate::nodes::Node;
+use game_model::{Branch, Game, MOST_ACTIONS, MOST_OBSERVATIONS, MOST_STATES, law_game};
 
 /// The length of a table by own action, observation and next state.
 pub const TABLE: usize = MOST_ACTIONS as usize * MOST_OBSERVATIONS as usize * MOST_STATES;
@@ -38,7 +38,7 @@ pub fn fill(game: &Game, nodes: &[Node], node: &Node, table: &mut [i128])
 }
 
 /// Adds a step's weight times the entries of its node's vector.
-fn add(step: &Step, vector: &[i128], table: &mut [i128])
+fn add(step: &Branch, vector: &[i128], table: &mut [i128])
     requires own { step.now.a < 6 }
     requires seen { step.now.o < 8 }
     requires weight { IsWithin (pos 1) (pos mix_total) step.now.weight }

@@ -168,3 +168,13 @@ fn the_first_of_equal_nodes_is_worth_the_most(rt: HostRuntime) {
     let second = worth_of_two(rt.alloc(), &game, &[1, 2]);
     assert!(rt; matches!(second, Ok((131_072, 1))));
 }
+
+#[test]
+fn an_empty_set_reserves_two_places(rt: HostRuntime) {
+    let Ok(game) = three_or_four(rt.alloc()) else {
+        panic!(rt; "the game is refused");
+    };
+    let mut set = NodeSet::new(rt.alloc(), &game);
+    assert!(rt; matches!(set.reserve(2), Ok(())));
+    assert_eq!(rt; set.len(), 0);
+}

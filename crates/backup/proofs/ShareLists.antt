@@ -13,11 +13,10 @@ use Rattle.std.proofs.lemmas.List.FromFn.{filter_of_map_range_with_len_more}
 use Rattle.std.proofs.lemmas.Grind.{flat_map-append}
 use Rattle.scaled_num.specs.Sums.{below}
 use Rattle.scaled_num.proofs.Sums.{below-each}
-use Rattle.game_model.specs.Branches.{Branch}
+use Rattle.game_model.specs.Branches.{Branch, branch_of}
 use Rattle.game_model.specs.Game.{GameData}
 use Rattle.belief.specs.Mixes.{MixesData}
-use Rattle.point_set.specs.Members.{branch_of}
-use Rattle.point_set.specs.declared.points.Share.{Share}
+use Rattle.game_model.specs.declared.branches.Branch.{Branch as Share}
 use Rattle.backup.specs.Seeds.{has_weight}
 use Rattle.backup.specs.Shares.{first_shares, own_shares, row_shares, seen_shares}
 

@@ -1,4 +1,5 @@
-ghost use Rattle.alpha_set.specs.Members.{branch_of, most_nodes, node_data};
+ghost use Rattle.game_model.specs.Branches.{branch_of};
+ghost use Rattle.alpha_set.specs.Members.{most_nodes, node_data};
 ghost use Rattle.alpha_set.specs.Nodes.{NodeFits, NodeStands, nodes_of};
 ghost use Rattle.backup.specs.Seeds.{AreSeedNodes, IsSeedNode, pure_mix};
 ghost use Rattle.backup.specs.Steps.{IsSeedVector, always_steps};
@@ -16,9 +17,9 @@ use std::alloc::{AllocError, Global};
 ///
 /// Where no memory is to be had.
 pub fn seed_nodes(alloc: Global, game: &Game) -> Result<NodeSet, AllocError>
-    ensures nodes { IfOk result (λ set. AreSeedNodes game.now set) }
-    ensures fit { IfOk result (λ set. AllByRecursion (NodeFits game.now (length set)) set) }
-    ensures stand { IfOk result (λ set. (i : ℕ) → i < length set → NodeStands (numbers game.now) (nodes_of set) (nodes_of set i)) }
+    ensures nodes { IfOk result (λ set. AreSeedNodes game.now set.members) }
+    ensures fit { IfOk result (λ set. AllByRecursion (NodeFits game.now (length set.members)) set.members) }
+    ensures stand { IfOk result (λ set. (i : ℕ) → i < length set.members → NodeStands (numbers game.now) (nodes_of set.members) (nodes_of set.members i)) }
 {
     law_game(game);
     let mut nodes = NodeSet::new(alloc, game);
@@ -30,8 +31,8 @@ pub fn seed_nodes(alloc: Global, game: &Game) -> Result<NodeSet, AllocError>
 
 /// Adds a node to a set that has room for it.
 fn add(nodes: &mut NodeSet, node: Node) -> Result<(), AllocError>
-    requires { length nodes.old < most_nodes }
-    ensures { OnOk result (nodes.new ≡ nodes.old ++ node_data node ∷ []) }
+    requires { length nodes.old.members < most_nodes }
+    ensures { OnOk result (nodes.new.members ≡ nodes.old.members ++ node_data node ∷ []) }
 {
     match nodes.push(node) {
         Ok(_) => Ok(()),

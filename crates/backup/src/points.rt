@@ -25,9 +25,9 @@ use std::alloc::{AllocError, Global};
 ///
 /// Where no memory is to be had.
 pub fn seed_points(alloc: Global, game: &Game) -> Result<PointSet, AllocError>
-    ensures points { IfOk result (λ set. AreSeedPoints game.now set) }
-    ensures fit { IfOk result (λ set. AllByRecursion (PointFits game.now (length set)) set) }
-    ensures stand { IfOk result (λ set. (j : ℕ) → j < length set → PointStands (numbers game.now) (points_of set) (points_of set j)) }
+    ensures points { IfOk result (λ set. AreSeedPoints game.now set.members) }
+    ensures fit { IfOk result (λ set. AllByRecursion (PointFits game.now (length set.members)) set.members) }
+    ensures stand { IfOk result (λ set. (j : ℕ) → j < length set.members → PointStands (numbers game.now) (points_of set.members) (points_of set.members j)) }
 {
     law_game(game);
     let mut values = [0; MOST_STATES];
@@ -48,7 +48,7 @@ fn corner_points(
     replies: &[u32],
 ) -> Result<PointSet, AllocError>
     requires { AreSettled game.now values.now replies.now }
-    ensures { IfOk result (λ set. set ≡ corner_points game.now values.now (pure_mixes game.now replies.now)) }
+    ensures { IfOk result (λ set. set.members ≡ corner_points game.now values.now (pure_mixes game.now replies.now)) }
 {
     law_game(game);
     let mut points = PointSet::new(alloc, game);
@@ -68,8 +68,8 @@ fn add_root(
     replies: &[u32],
     points: &mut PointSet,
 ) -> Result<(), AllocError>
-    requires { AreCorners game.now replies.now points.old }
-    ensures { OnOk result (AreSeeds game.now points.new) }
+    requires { AreCorners game.now replies.now points.old.members }
+    ensures { OnOk result (AreSeeds game.now points.new.members) }
 {
     law_game(game);
     if game.first_total() > 1 {
@@ -86,8 +86,8 @@ fn root_point(
     replies: &[u32],
     corners: &PointSet,
 ) -> Result<Point, AllocError>
-    requires { AreCorners game.now replies.now corners.now }
-    ensures { IfOk result (λ point. IsRootPoint game.now corners.now (pure_mixes game.now replies.now) (point_data point)) }
+    requires { AreCorners game.now replies.now corners.now.members }
+    ensures { IfOk result (λ point. IsRootPoint game.now corners.now.members (pure_mixes game.now replies.now) (point_data point)) }
 {
     law_game(game);
     let mut point = point_at(alloc, game, Belief::first_of(game), 0, replies)?;
@@ -120,8 +120,8 @@ fn point_at(
 
 /// Adds a point to a set that has room for it.
 fn add(points: &mut PointSet, point: Point) -> Result<(), AllocError>
-    requires { length points.old < most_points }
-    ensures { OnOk result (points.new ≡ points.old ++ point_data point ∷ []) }
+    requires { length points.old.members < most_points }
+    ensures { OnOk result (points.new.members ≡ points.old.members ++ point_data point ∷ []) }
 {
     match points.push(point) {
         Ok(_) => Ok(()),
@@ -132,8 +132,8 @@ fn add(points: &mut PointSet, point: Point) -> Result<(), AllocError>
 
 /// What a point must be worth among the points of a set, rounded up.
 fn evaluation(game: &Game, points: &PointSet, point: &Point) -> i128
-    requires { IsSplitAmong game.now points.now (point_data point.now) }
-    ensures { IsEvaluation (numbers game.now) (points_of points.now) (point_of (point_data point.now)) result }
+    requires { IsSplitAmong game.now points.now.members (point_data point.now) }
+    ensures { IsEvaluation (numbers game.now) (points_of points.now.members) (point_of (point_data point.now)) result }
 {
     law_game(game);
     let worth = greatest_worth(game, points, point);
@@ -143,8 +143,8 @@ fn evaluation(game: &Game, points: &PointSet, point: &Point) -> i128
 
 /// The most that one stage costs a point over the own actions, before the division.
 fn greatest_worth(game: &Game, points: &PointSet, point: &Point) -> i128
-    requires { IsSplitAmong game.now points.now (point_data point.now) }
-    ensures { IsGreatestOf (point_worth (numbers game.now) (points_of points.now) (point_of (point_data point.now))) game.now.shape.own_actions result }
+    requires { IsSplitAmong game.now points.now.members (point_data point.now) }
+    ensures { IsGreatestOf (point_worth (numbers game.now) (points_of points.now.members) (point_of (point_data point.now))) game.now.shape.own_actions result }
 {
     law_game(game);
     let mut most = points.stage_worth(game, point, 0);

@@ -21,12 +21,12 @@ use std::alloc::{AllocError, Global};
 ///
 /// Where no memory is to be had.
 pub fn seed(alloc: Global, game: &Game) -> Result<(NodeSet, PointSet), AllocError>
-    ensures nodes { IfOk result (λ sets. AreSeedNodes game.now sets.0) }
-    ensures points { IfOk result (λ sets. AreSeedPoints game.now sets.1) }
-    ensures nodes_fit { IfOk result (λ sets. AllByRecursion (NodeFits game.now (length sets.0)) sets.0) }
-    ensures nodes_stand { IfOk result (λ sets. (i : ℕ) → i < length sets.0 → NodeStands (numbers game.now) (nodes_of sets.0) (nodes_of sets.0 i)) }
-    ensures points_fit { IfOk result (λ sets. AllByRecursion (PointFits game.now (length sets.1)) sets.1) }
-    ensures points_stand { IfOk result (λ sets. (j : ℕ) → j < length sets.1 → PointStands (numbers game.now) (points_of sets.1) (points_of sets.1 j)) }
+    ensures nodes { IfOk result (λ sets. AreSeedNodes game.now sets.0.members) }
+    ensures points { IfOk result (λ sets. AreSeedPoints game.now sets.1.members) }
+    ensures nodes_fit { IfOk result (λ sets. AllByRecursion (NodeFits game.now (length sets.0.members)) sets.0.members) }
+    ensures nodes_stand { IfOk result (λ sets. (i : ℕ) → i < length sets.0.members → NodeStands (numbers game.now) (nodes_of sets.0.members) (nodes_of sets.0.members i)) }
+    ensures points_fit { IfOk result (λ sets. AllByRecursion (PointFits game.now (length sets.1.members)) sets.1.members) }
+    ensures points_stand { IfOk result (λ sets. (j : ℕ) → j < length sets.1.members → PointStands (numbers game.now) (points_of sets.1.members) (points_of sets.1.members j)) }
 {
     let nodes = seed_nodes(alloc, game)?;
     let points = seed_points(alloc, game)?;

@@ -1,6 +1,6 @@
 ghost use Rattle.backup.specs.Seeds.{corner_shares, has_weight};
 ghost use Rattle.backup.specs.Shares.{AreOver, own_shares, row_shares, seen_shares};
-ghost use Rattle.point_set.specs.Members.{branch_of};
+ghost use Rattle.game_model.specs.Branches.{branch_of};
 ghost use Rattle.scaled_num.specs.Share.{at};
 ghost use Rattle.std.specs.Prelude.{IfOk, OnOk, filter, length, map, ◌++◌, ◌<◌, ◌≡◌, ◌≤◌};
 

@@ -28,8 +28,8 @@ pub fn first_node(game: &Game, certificate: &Certificate) -> Option<Reason>
 /// The first place at which a point fails.
 pub fn first_point(game: &Game, certificate: &Certificate) -> Option<Reason>
     requires { CertificateFits game.now (certificate_data certificate.now) }
-    ensures none { IsNone result → AllByRecursion (Holds game.now (certificate_data certificate.now)) (flat_map (point_places game.now) (below (length certificate.now.points))) }
-    ensures first { IfSome result (λ reason. FirstIn (Holds game.now (certificate_data certificate.now)) (flat_map (point_places game.now) (below (length certificate.now.points))) (place_of reason)) }
+    ensures none { IsNone result → AllByRecursion (Holds game.now (certificate_data certificate.now)) (flat_map (point_places game.now) (below (length certificate.now.points.members))) }
+    ensures first { IfSome result (λ reason. FirstIn (Holds game.now (certificate_data certificate.now)) (flat_map (point_places game.now) (below (length certificate.now.points.members))) (place_of reason)) }
 {
     for j in 0..certificate.points.len() {
         if let Some(reason) = first_of_point(game, certificate, j) {
@@ -42,7 +42,7 @@ pub fn first_point(game: &Game, certificate: &Certificate) -> Option<Reason>
 /// The first place at which one point fails: its corner, its split places, its values.
 fn first_of_point(game: &Game, certificate: &Certificate, j: u32) -> Option<Reason>
     requires fits { CertificateFits game.now (certificate_data certificate.now) }
-    requires member { j < length certificate.now.points }
+    requires member { j < length certificate.now.points.members }
     ensures none { IsNone result → AllByRecursion (Holds game.now (certificate_data certificate.now)) (point_places game.now j) }
     ensures first { IfSome result (λ reason. FirstIn (Holds game.now (certificate_data certificate.now)) (point_places game.now j) (place_of reason)) }
 {
@@ -59,7 +59,7 @@ fn first_of_point(game: &Game, certificate: &Certificate, j: u32) -> Option<Reas
 /// Whether the belief of a point is sure of the state of its number.
 fn is_corner(game: &Game, certificate: &Certificate, j: u32) -> bool
     requires fits { CertificateFits game.now (certificate_data certificate.now) }
-    requires member { j < length certificate.now.points }
+    requires member { j < length certificate.now.points.members }
     requires state { j < game.now.shape.states }
     ensures { IsTrue result ↔ Holds game.now (certificate_data certificate.now) (CornerAt j) }
 {

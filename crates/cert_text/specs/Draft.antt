@@ -3,22 +3,13 @@ use Rattle.std.specs.Prelude.{◌≡◌, map}
 use Rattle.belief.specs.Mixes.{AreMixes}
 use Rattle.game_model.specs.Game.{AreCoprime, GameData, IsBelief}
 use Rattle.alpha_set.specs.Members.{node_data}
-use Rattle.alpha_set.specs.declared.nodes.Step.{Step}
-use Rattle.point_set.specs.Members.{branch_of}
+use Rattle.game_model.specs.Branches.{branch_of}
 use Rattle.point_set.specs.Points.{PointData}
-use Rattle.point_set.specs.declared.points.Share.{Share}
 use Rattle.controller.specs.Certificates.{CertificateData}
 use Rattle.controller.specs.Data.{ending_of}
-use Rattle.cert_text.specs.declared.place.Branch.{Branch}
 use Rattle.cert_text.specs.declared.draft.Draft.{Draft}
 use Rattle.cert_text.specs.declared.draft.Spot.{Spot}
 use Rattle.cert_text.specs.View.{fraction_is}
-
-abbrev pub step_of : Branch → Step
-step_of b = record { a = b.own; o = b.seen; k = b.member; weight = b.weight }
-
-abbrev pub share_of : Branch → Share
-share_of b = record { a = b.own; o = b.seen; k = b.member; weight = b.weight }
 
 abbrev pub spot_data : Spot → PointData
 spot_data p = record {

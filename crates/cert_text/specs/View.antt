@@ -1,19 +1,15 @@
 -- What the reader's own values say, and the limits that they keep.
 use Rattle.std.specs.Prelude.{◌<◌, ◌≤◌, ◌^◌, length, All, ℤ, pos, ◌≤ℤ◌, slice_index_or}
 use Rattle.scaled_num.specs.Sums.{sum_of}
-use Rattle.game_model.specs.Branches.{Branch as BranchData}
+use Rattle.game_model.specs.Branches.{branch_of}
 use Rattle.game_model.specs.Game.{IsWithin}
 use Rattle.controller.specs.Certificates.{FractionData}
 use Rattle.controller.specs.Data.{ending_of}
-use Rattle.cert_text.specs.declared.place.Branch.{Branch}
 use Rattle.cert_text.specs.declared.place.Limits.{Limits}
 use Rattle.cert_text.specs.declared.place.Place.{Place}
 use Rattle.cert_text.specs.declared.place.Entry.{Entry as Read}
 use Rattle.cert_text.specs.declared.place.Entry.TheVariants as read
 use Rattle.cert_text.specs.Entries.{Entry, Version, Outcome as OutcomeIs, Gap, Lower, Upper, Tail, Sizes, Start, Node, Vector, Mix, Next, Point, Belief, Value, Mixes, Split, End, place_at}
-
-abbrev pub branch_of : Branch → BranchData
-branch_of b = record { own = b.own; seen = b.seen; member = b.member; weight = b.weight }
 
 abbrev pub fraction_is : (ℤ × ℤ) → FractionData
 fraction_is f = record { num = f.0; den = f.1 }

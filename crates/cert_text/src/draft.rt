@@ -4,14 +4,15 @@ ghost use Rattle.alpha_set.specs.Members.{node_data};
 ghost use Rattle.alpha_set.specs.Nodes.{NodeData};
 ghost use Rattle.point_set.specs.Points.{PointData};
 ghost use Rattle.cert_text.specs.Made.{at_last, blank, new_point, with_entry, with_mixes};
-ghost use Rattle.cert_text.specs.Draft.{draft_data, spot_data, step_of, share_of};
-ghost use Rattle.cert_text.specs.View.{branch_of, entry_in};
+ghost use Rattle.cert_text.specs.Draft.{draft_data, spot_data};
+ghost use Rattle.cert_text.specs.View.{entry_in};
+ghost use Rattle.game_model.specs.Branches.{branch_of};
 
 use crate::fault::CertFault;
-use crate::place::{Branch, Entry, Limits};
-use alpha_set::{Node, Step};
+use crate::place::{Entry, Limits};
+use alpha_set::Node;
 use controller::Outcome;
-use point_set::Share;
+use game_model::Branch;
 use std::alloc::{AllocError, AllocFailed, Global};
 
 /// A point in the making.
@@ -23,7 +24,7 @@ pub struct Spot {
     pub actions: u32,
     /// The weights of the mixes, by state and then by informed action.
     pub weights: Vec<i128>,
-    pub splits: Vec<Share>,
+    pub splits: Vec<Branch>,
 }
 
 /// A certificate in the making.
@@ -73,16 +74,11 @@ fn set_mix(nodes: &mut Vec<Node>, mix: Vec<i128>)
     }
 }
 
-fn add_step(nodes: &mut Vec<Node>, b: Branch) -> Result<(), AllocFailed<Step>>
+fn add_step(nodes: &mut Vec<Node>, b: Branch) -> Result<(), AllocFailed<Branch>>
     ensures { OnOk result (map node_data nodes.new.items ≡ at_last (λ (n : NodeData). record n { next = n.next ++ branch_of b ∷ [] }) (map node_data nodes.old.items)) }
 {
     if let Some(node) = nodes.last_mut() {
-        node.next.push(Step {
-            a: b.own,
-            o: b.seen,
-            k: b.member,
-            weight: b.weight,
-        })?;
+        node.next.push(b)?;
     }
     Ok(())
 }
@@ -112,16 +108,11 @@ fn add_weights(points: &mut Vec<Spot>, weights: &[i128]) -> Result<(), AllocErro
     Ok(())
 }
 
-fn add_share(points: &mut Vec<Spot>, b: Branch) -> Result<(), AllocFailed<Share>>
+fn add_share(points: &mut Vec<Spot>, b: Branch) -> Result<(), AllocFailed<Branch>>
     ensures { OnOk result (map spot_data points.new.items ≡ at_last (λ (p : PointData). record p { splits = p.splits ++ branch_of b ∷ [] }) (map spot_data points.old.items)) }
 {
     if let Some(point) = points.last_mut() {
-        point.splits.push(Share {
-            a: b.own,
-            o: b.seen,
-            k: b.member,
-            weight: b.weight,
-        })?;
+        point.splits.push(b)?;
     }
     Ok(())
 }

@@ -2,7 +2,8 @@ ghost use Rattle.std.specs.Prelude.{◌≡◌, ◌≤◌, ◌<◌, length, map, 
 ghost use Rattle.game_model.specs.Branches.{mix_total};
 ghost use Rattle.point_set.specs.Points.{most_share};
 ghost use Rattle.cert_text.specs.Fault.{Gives};
-ghost use Rattle.cert_text.specs.View.{entry_in, branch_of, AreLimits, IsPlace};
+ghost use Rattle.cert_text.specs.View.{entry_in, AreLimits, IsPlace};
+ghost use Rattle.game_model.specs.Branches.{branch_of};
 ghost use Rattle.cert_text.specs.Entries.{node_said, vector_said, mix_said, branch_said, next_said, point_said, belief_said, value_within, value_said, mixes_said, split_said};
 
 use crate::fault::{CertKind, LineFault};
@@ -10,8 +11,8 @@ use crate::forms::numbers_after;
 use crate::guards::{
     at_least, belief_total, fits_lack, is_due, later_branch, member_below, none_lacks, sums_to_mix,
 };
-use crate::place::{Branch, Entry, Limits, Place};
-use game_model::{MIX_TOTAL, MOST_BELIEF};
+use crate::place::{Entry, Limits, Place};
+use game_model::{Branch, MIX_TOTAL, MOST_BELIEF};
 use point_set::MOST_SHARE;
 use std::alloc::Global;
 use text_words::{below_limit, each_within, limited};
@@ -64,22 +65,17 @@ fn branch(
     words: &[&[u8]],
 ) -> Result<Branch, LineFault>
     ensures gives { Gives branch_of result (branch_said name.now most members place.now (map (λ word. word.now) words.now)) }
-    ensures own { IfOk result (λ b. b.own < place.now.limits.own_actions) }
-    ensures seen { IfOk result (λ b. b.seen < place.now.limits.observations) }
+    ensures own { IfOk result (λ b. b.a < place.now.limits.own_actions) }
+    ensures seen { IfOk result (λ b. b.o < place.now.limits.observations) }
 {
     let numbers = numbers_after(alloc, words, name, 4)?;
-    let own = below_limit(CertKind::Range, place.limits.own_actions, numbers[0])?;
-    let seen = below_limit(CertKind::Range, place.limits.observations, numbers[1])?;
+    let a = below_limit(CertKind::Range, place.limits.own_actions, numbers[0])?;
+    let o = below_limit(CertKind::Range, place.limits.observations, numbers[1])?;
     let number = at_least(0, numbers[2])?;
     let weight = limited(CertKind::Range, 1, most, numbers[3])?;
-    later_branch(place.latest, own, seen, number)?;
-    let member = member_below(members, number)?;
-    Ok(Branch {
-        own,
-        seen,
-        member,
-        weight,
-    })
+    later_branch(place.latest, a, o, number)?;
+    let k = member_below(members, number)?;
+    Ok(Branch { a, o, k, weight })
 }
 
 /// A step: no earlier place lacks anything, and this one lacks its weight.
@@ -89,7 +85,7 @@ pub fn next_line(alloc: Global, place: &Place, words: &[&[u8]]) -> Result<Entry,
     ensures { Gives entry_in result (next_said place.now (map (λ word. word.now) words.now)) }
 {
     let b = branch(alloc, b"next", MIX_TOTAL, place.nodes, place, words)?;
-    let i = (b.own * place.limits.observations + b.seen) as usize;
+    let i = (b.a * place.limits.observations + b.o) as usize;
     none_lacks(&place.lacking[..i])?;
     fits_lack(place.lacking[i], b.weight)?;
     Ok(Entry::Next(b))

@@ -1,4 +1,5 @@
 use controller::Outcome;
+use game_model::Branch;
 
 /// The most places of a node: pairs of an own action and an observation.
 pub const MOST_PLACES: usize = 48;
@@ -12,15 +13,6 @@ pub struct Limits {
     pub observations: u32,
     /// The span in units.
     pub span: i128,
-}
-
-/// A branch: after an own action and an observation, go on with a member, by a weight.
-#[derive(Clone, Copy, Debug, PartialEq, Eq)]
-pub struct Branch {
-    pub own: u32,
-    pub seen: u32,
-    pub member: u32,
-    pub weight: i128,
 }
 
 /// The line just before.

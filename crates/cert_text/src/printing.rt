@@ -2,21 +2,22 @@ ghost use Rattle.std.specs.Prelude.{◌≡◌, ◌<◌, ◌++◌, [], ◌∷◌,
 ghost use Rattle.std.specs.Fmt.{signed_decimal};
 ghost use Rattle.std.specs.String.{string_bytes};
 ghost use Rattle.scaled_num.specs.Sums.{below};
-ghost use Rattle.alpha_set.specs.Members.{branch_of as step_branch, node_data};
+ghost use Rattle.game_model.specs.Branches.{branch_of};
+ghost use Rattle.alpha_set.specs.Members.{node_data};
 ghost use Rattle.alpha_set.specs.Nodes.{no_node};
 ghost use Rattle.belief.specs.Mixes.{mix_at};
 ghost use Rattle.controller.specs.Certificates.{CertificateFits};
 ghost use Rattle.controller.specs.Data.{certificate_data, ending_of, fraction_data};
-ghost use Rattle.point_set.specs.Members.{branch_of as share_branch, point_data};
+ghost use Rattle.point_set.specs.Members.{point_data};
 ghost use Rattle.point_set.specs.Points.{no_point};
 ghost use Rattle.text_words.specs.Lines.{line_text};
 ghost use Rattle.cert_text.specs.Text.{branch_line, certificate_text, fraction_line, head_text, line_of, mix_text, node_text, outcome_word, point_text};
 
-use alpha_set::{Node, NodeSet, Step};
+use alpha_set::{Node, NodeSet};
 use belief::Mixes;
 use controller::{Certificate, Outcome};
-use game_model::Game;
-use point_set::{Point, PointSet, Share};
+use game_model::{Branch, Game};
+use point_set::{Point, PointSet};
 use scaled_num::Fraction;
 use std::alloc::{AllocError, Global};
 
@@ -57,28 +58,28 @@ fn outcome_word(outcome: Outcome) -> &'static str
     }
 }
 
-/// Writes the line of a step.
-fn next_line(text: &mut String, step: &Step) -> Result<(), AllocError>
-    ensures { OnOk result (string_bytes text.new ≡ string_bytes text.old ++ branch_line (codes "next") (step_branch step.now)) }
+/// Writes the line of a branch under a name.
+fn branch_line(text: &mut String, name: &str, branch: &Branch) -> Result<(), AllocError>
+    ensures { OnOk result (string_bytes text.new ≡ string_bytes text.old ++ branch_line name.now (branch_of branch.now)) }
 {
     line(
         text,
-        "next",
+        name,
         &[
-            i128::from(step.a),
-            i128::from(step.o),
-            i128::from(step.k),
-            step.weight,
+            i128::from(branch.a),
+            i128::from(branch.o),
+            i128::from(branch.k),
+            branch.weight,
         ],
     )
 }
 
-/// Writes the lines of steps.
-fn next_lines(text: &mut String, steps: &[Step]) -> Result<(), AllocError>
-    ensures { OnOk result (string_bytes text.new ≡ string_bytes text.old ++ flat_map (branch_line (codes "next")) (map step_branch steps.now)) }
+/// Writes the lines of branches under a name.
+fn branch_lines(text: &mut String, name: &str, branches: &[Branch]) -> Result<(), AllocError>
+    ensures { OnOk result (string_bytes text.new ≡ string_bytes text.old ++ flat_map (branch_line name.now) (map branch_of branches.now)) }
 {
-    for step in steps {
-        next_line(text, step)?;
+    for branch in branches {
+        branch_line(text, name, branch)?;
     }
     Ok(())
 }
@@ -90,41 +91,15 @@ fn node_lines(text: &mut String, i: u32, node: &Node) -> Result<(), AllocError>
     line(text, "node", &[i128::from(i)])?;
     line(text, "vector", &node.vector)?;
     line(text, "mix", &node.mix)?;
-    next_lines(text, &node.next)
+    branch_lines(text, "next", &node.next)
 }
 
 /// Writes the lines of nodes.
 fn nodes_lines(text: &mut String, nodes: &NodeSet) -> Result<(), AllocError>
-    ensures { OnOk result (string_bytes text.new ≡ string_bytes text.old ++ flat_map (λ i. node_text i (slice_index_or nodes.now i no_node)) (below (length nodes.now))) }
+    ensures { OnOk result (string_bytes text.new ≡ string_bytes text.old ++ flat_map (λ i. node_text i (slice_index_or nodes.now.members i no_node)) (below (length nodes.now.members))) }
 {
     for i in 0..nodes.len() {
         node_lines(text, i, nodes.node(i))?;
-    }
-    Ok(())
-}
-
-/// Writes the line of a share.
-fn split_line(text: &mut String, share: &Share) -> Result<(), AllocError>
-    ensures { OnOk result (string_bytes text.new ≡ string_bytes text.old ++ branch_line (codes "split") (share_branch share.now)) }
-{
-    line(
-        text,
-        "split",
-        &[
-            i128::from(share.a),
-            i128::from(share.o),
-            i128::from(share.k),
-            share.weight,
-        ],
-    )
-}
-
-/// Writes the lines of shares.
-fn split_lines(text: &mut String, shares: &[Share]) -> Result<(), AllocError>
-    ensures { OnOk result (string_bytes text.new ≡ string_bytes text.old ++ flat_map (branch_line (codes "split")) (map share_branch shares.now)) }
-{
-    for share in shares {
-        split_line(text, share)?;
     }
     Ok(())
 }
@@ -168,12 +143,12 @@ fn point_lines(text: &mut String, j: u32, point: &Point) -> Result<(), AllocErro
     line(text, "belief", point.belief.parts())?;
     line(text, "value", &[point.value])?;
     mix_lines(text, &point.mixes)?;
-    split_lines(text, &point.splits)
+    branch_lines(text, "split", &point.splits)
 }
 
 /// Writes the lines of points.
 fn points_lines(text: &mut String, points: &PointSet) -> Result<(), AllocError>
-    ensures { OnOk result (string_bytes text.new ≡ string_bytes text.old ++ flat_map (λ j. point_text j (slice_index_or points.now j no_point)) (below (length points.now))) }
+    ensures { OnOk result (string_bytes text.new ≡ string_bytes text.old ++ flat_map (λ j. point_text j (slice_index_or points.now.members j no_point)) (below (length points.now.members))) }
 {
     for j in 0..points.len() {
         point_lines(text, j, points.point(j))?;

@@ -190,8 +190,8 @@ fn advance(place: &mut Place, entry: &Entry)
             place.lacking = lacking_of(place.limits.observations, weights);
         }
         Entry::Next(b) => {
-            place.latest = Latest::Next(b.own, b.seen, b.member);
-            let i = (b.own * place.limits.observations + b.seen) as usize;
+            place.latest = Latest::Next(b.a, b.o, b.k);
+            let i = (b.a * place.limits.observations + b.o) as usize;
             take_weight(&mut place.lacking, i, b.weight);
         }
         Entry::Point(number) => {
@@ -208,7 +208,7 @@ fn advance(place: &mut Place, entry: &Entry)
             place.latest = Latest::Mixes;
             place.state = *state + 1;
         }
-        Entry::Split(b) => place.latest = Latest::Split(b.own, b.seen, b.member),
+        Entry::Split(b) => place.latest = Latest::Split(b.a, b.o, b.k),
         Entry::End => place.latest = Latest::End,
     }
 }

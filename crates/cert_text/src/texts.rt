@@ -73,7 +73,7 @@ fn read_whole(alloc: Global, game: &Game, bytes: &[u8]) -> Result<Draft, CertFau
 
 /// The set of these nodes.
 fn node_set(alloc: Global, game: &Game, nodes: Vec<Node>) -> Result<NodeSet, CertFault>
-    ensures same { IfOk result (λ set. set ≡ map node_data nodes.items) }
+    ensures same { IfOk result (λ set. set.members ≡ map node_data nodes.items) }
     ensures memory { IfErr result (λ fault. fault ≡ certs.OutOfMemory) }
 {
     let mut set = NodeSet::new(alloc, game);
@@ -107,7 +107,7 @@ fn point(alloc: Global, game: &Game, spot: Spot) -> Result<Point, CertFault>
 /// The set of the points that were in the making.
 fn point_set(alloc: Global, game: &Game, spots: Vec<Spot>) -> Result<PointSet, CertFault>
     requires { AllByRecursion (AreFit game.now) (map spot_data spots.items) }
-    ensures same { IfOk result (λ set. set ≡ map spot_data spots.items) }
+    ensures same { IfOk result (λ set. set.members ≡ map spot_data spots.items) }
     ensures memory { IfErr result (λ fault. fault ≡ certs.OutOfMemory) }
 {
     let mut set = PointSet::new(alloc, game);

@@ -23,8 +23,8 @@ certificate_data k = record {
   tail = fraction_data k.tail;
   gap = fraction_data k.gap;
   outcome = ending_of k.outcome;
-  nodes = k.nodes;
-  points = k.points;
+  nodes = k.nodes.members;
+  points = k.points.members;
   start_node = k.start_node;
   start_point = k.start_point;
 }

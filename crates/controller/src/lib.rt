@@ -1,6 +1,7 @@
 //! Certificates: a controller of player one and a splitting strategy of the informed player, with what they prove.
 #![tactic(auto)]
 
+mod branches;
 mod certificates;
 mod nodes;
 mod points;

@@ -1,19 +1,20 @@
-ghost use Rattle.alpha_set.specs.Members.{branch_of, node_data};
+ghost use Rattle.alpha_set.specs.Members.{node_data};
 ghost use Rattle.alpha_set.specs.Nodes.{IsMix, NodeFits};
-ghost use Rattle.game_model.specs.Branches.{AreBranches, AreRising, IsBranch, IsBranchBefore, branches_at, mix_total};
-ghost use Rattle.game_model.specs.Game.{IsWithin, numbers, span};
+ghost use Rattle.game_model.specs.Branches.{branch_of, branches_at, mix_total};
+ghost use Rattle.game_model.specs.Game.{IsWithin, span};
 ghost use Rattle.scaled_num.specs.Sums.{total};
 ghost use Rattle.std.specs.Bool.{IsTrue};
 ghost use Rattle.std.specs.List.{AllByRecursion};
 ghost use Rattle.std.specs.Prelude.{if◌then◌else◌, length, map, pos, slice_index_or, ℕ, ◌&&◌, ◌<◌, ◌==◌, ◌↔◌, ◌≡◌};
 
+use crate::branches::are_branches;
 use alpha_set::{Node, NodeSet, Step};
 use game_model::{Game, MIX_TOTAL};
 use scaled_num::sum;
 
 /// Whether each node fits a game and names nodes of the set.
 pub fn nodes_fit(game: &Game, nodes: &NodeSet) -> bool
-    ensures { IsTrue result ↔ AllByRecursion (NodeFits game.now (length nodes.now)) nodes.now }
+    ensures { IsTrue result ↔ AllByRecursion (NodeFits game.now (length nodes.now.members)) nodes.now.members }
 {
     for i in 0..nodes.len() {
         if !node_fits(game, nodes.len(), nodes.node(i)) {
@@ -30,7 +31,7 @@ fn node_fits(game: &Game, count: u32, node: &Node) -> bool
     node.vector.len() == game.states() as usize
         && are_within(&node.vector, -game.span(), game.span())
         && is_mix(game, &node.mix)
-        && are_steps(game, count, &node.next)
+        && are_branches(game, count, MIX_TOTAL, &node.next)
         && sums_are(game, node)
 }
 
@@ -53,56 +54,6 @@ fn is_mix(game: &Game, mix: &[i128]) -> bool
     mix.len() == game.own_actions() as usize
         && are_within(mix, 0, MIX_TOTAL)
         && sum(mix) == MIX_TOTAL
-}
-
-/// Whether the steps rise, and each is in range.
-fn are_steps(game: &Game, count: u32, next: &[Step]) -> bool
-    ensures { IsTrue result ↔ AreBranches (numbers game.now) count (pos mix_total) (map branch_of next.now) }
-{
-    are_rising(next) && are_in_range(game, count, next)
-}
-
-/// Whether each step is in range.
-fn are_in_range(game: &Game, count: u32, next: &[Step]) -> bool
-    ensures { IsTrue result ↔ AllByRecursion (λ step. IsBranch (numbers game.now) count (pos mix_total) (branch_of step)) next.now }
-{
-    for step in next {
-        if !is_step(game, count, step) {
-            return false;
-        }
-    }
-    true
-}
-
-/// Whether a step is in range and names one of so many nodes.
-fn is_step(game: &Game, count: u32, step: &Step) -> bool
-    ensures { IsTrue result ↔ IsBranch (numbers game.now) count (pos mix_total) (branch_of step.now) }
-{
-    step.a < game.own_actions()
-        && step.o < game.observations()
-        && step.k < count
-        && 1 <= step.weight
-        && step.weight <= MIX_TOTAL
-}
-
-/// Whether steps rise strictly by own action, observation and node.
-fn are_rising(next: &[Step]) -> bool
-    ensures { IsTrue result ↔ AreRising (map branch_of next.now) }
-{
-    for i in 1..next.len() {
-        if !is_before(&next[i - 1], &next[i]) {
-            return false;
-        }
-    }
-    true
-}
-
-/// Whether a step comes before another.
-fn is_before(step: &Step, other: &Step) -> bool
-    ensures { IsTrue result ↔ IsBranchBefore (branch_of step.now) (branch_of other.now) }
-{
-    step.a < other.a
-        || (step.a == other.a && (step.o < other.o || (step.o == other.o && step.k < other.k)))
 }
 
 /// Whether after each own action and observation the steps have the weight of that action.

@@ -3,6 +3,7 @@ use Rattle.std.specs.Prelude.{ℕ, ℤ, pos, List, [], ◌∷◌, filter, ◌≡
 use Rattle.std.specs.List.{AllByRecursion}
 use Rattle.game_model.specs.Game.{IsWithin}
 use Rattle.game_model.specs.Numbers.{Numbers}
+use Rattle.game_model.specs.declared.branches.Branch.{Branch as BranchParts}
 
 -- the total of every mix
 abbrev pub mix_total : ℕ
@@ -13,6 +14,10 @@ pub record Branch : Type 0 where
   pub seen : ℕ
   pub member : ℕ
   pub weight : ℤ
+
+-- a branch of the program as data
+abbrev pub branch_of : BranchParts → Branch
+branch_of b = record { own = b.a; seen = b.o; member = b.k; weight = b.weight }
 
 -- branches rise strictly by own action, observation and member
 abbrev pub IsBranchBefore : Branch → Branch → Type 0

@@ -5,5 +5,6 @@ pub mod Laws
 pub mod Game
 pub mod Seeds
 pub mod Branches
+pub mod Sets
 pub mod Build
 pub mod Bounds

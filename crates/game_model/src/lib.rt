@@ -2,6 +2,7 @@
 #![tactic(auto)]
 
 mod accepted;
+mod branches;
 mod builder;
 mod laws;
 mod limits;
@@ -11,6 +12,7 @@ mod seeds;
 mod tests;
 
 pub use accepted::{Game, law_game};
+pub use branches::Branch;
 pub use builder::{GameBuilder, GameFault};
 pub use laws::{law_always, law_families, law_pay, law_plays, law_seeds, law_weights};
 pub use parts::{

@@ -15,7 +15,7 @@ use Rattle.belief.specs.Beliefs.{mix_weight, weight_at}
 use Rattle.belief.specs.Mixes.{AreMixes, MixesData, mix_at}
 use Rattle.point_set.specs.Members.{brought, counted, counted_size}
 use Rattle.point_set.specs.Points.{Point, mass}
-use Rattle.point_set.specs.declared.points.Share.{Share as ShareParts}
+use Rattle.game_model.specs.declared.branches.Branch.{Branch as ShareParts}
 
 -- the sums over states and actions trade places with those over observations and next states
 pub behind-two : {S C O T : Type 0} (f : S → C → O → T → ℤ) (ss : List S) (cs : List C) (os : List O) (ts : List T) →

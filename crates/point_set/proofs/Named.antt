@@ -9,17 +9,17 @@ use Rattle.std.proofs.lemmas.Nat.{mul-le}
 use Rattle.std.proofs.lemmas.List.{get_or-map}
 use Rattle.std.proofs.lemmas.List.Sums.{sum_by_more}
 use Rattle.scaled_num.proofs.Sums.{each-at, sum_by-map}
-use Rattle.game_model.specs.Branches.{Branch, IsBranch}
+use Rattle.game_model.specs.Branches.{Branch, IsBranch, branch_of}
 use Rattle.game_model.specs.Numbers.{Numbers}
 use Rattle.game_model.proofs.Pay.{each-from}
 use Rattle.belief.proofs.Landings.{each-filter}
 use Rattle.game_model.specs.Game.{GameData, IsWithin, numbers}
 use Rattle.game_model.proofs.Front.{length-map}
 use Rattle.belief.proofs.Sums.{magnitude-small}
-use Rattle.point_set.specs.Members.{IsAfter, IsMember, IsNamed, branch_of, brought, data_of, most_points, point_data}
+use Rattle.point_set.specs.Members.{IsAfter, IsMember, IsNamed, brought, data_of, most_points, point_data}
 use Rattle.point_set.specs.Points.{Point, PointFits, Share, SplitHolds, mass, most_share, no_point, point_of, points_of, share_of, shared}
 use Rattle.point_set.specs.declared.points.Point.{Point as PointParts}
-use Rattle.point_set.specs.declared.points.Share.{Share as ShareParts}
+use Rattle.game_model.specs.declared.branches.Branch.{Branch as ShareParts}
 use Rattle.point_set.proofs.Shares.{few-shares, no_share}
 use Rattle.scaled_num.proofs.Each.{each-of-map}
 use Rattle.scaled_num.proofs.Products.{magnitude-is}

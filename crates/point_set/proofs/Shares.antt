@@ -7,11 +7,11 @@ use Rattle.std.specs.List.Sorted.{IsPartitionedBy, IsPartitionPoint}
 use Rattle.std.proofs.lemmas.Bool.Decides.{Decides-and, Decides-eqb, Decides-ltb, Decides-or, not_from_Decides}
 use Rattle.std.proofs.lemmas.List.{get_or-drop}
 use Rattle.scaled_num.proofs.Sums.{each-at}
-use Rattle.game_model.specs.Branches.{AreRising, Branch, IsBranchBefore}
+use Rattle.game_model.specs.Branches.{AreRising, Branch, IsBranchBefore, branch_of}
 use Rattle.game_model.proofs.Pay.{each-from}
 use Rattle.belief.proofs.Windows.{filter-window}
-use Rattle.point_set.specs.Members.{IsAfter, branch_of}
-use Rattle.point_set.specs.declared.points.Share.{Share as ShareParts}
+use Rattle.point_set.specs.Members.{IsAfter}
+use Rattle.game_model.specs.declared.branches.Branch.{Branch as ShareParts}
 
 abbrev pub no_share : ShareParts
 no_share = record { a = 0; o = 0; k = 0; weight = pos 0 }

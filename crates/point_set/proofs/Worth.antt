@@ -9,7 +9,7 @@ use Rattle.std.proofs.lemmas.Nat.{mul-le}
 use Rattle.scaled_num.specs.Sums.{below, total, sum_of}
 use Rattle.scaled_num.proofs.Products.{products, sums, abs-add, magnitude-is}
 use Rattle.scaled_num.proofs.Sums.{below-each, total-below, total-map, total-same, total-scale}
-use Rattle.game_model.specs.Branches.{Branch, IsBranch, mix_total}
+use Rattle.game_model.specs.Branches.{Branch, IsBranch, branch_of, mix_total}
 use Rattle.game_model.specs.Game.{GameData, IsGame, IsNarrow, IsRewardInRange, IsWithin, greatest_reward, numbers, reward_at, span, triple, unit}
 use Rattle.game_model.specs.declared.parts.Shape.{Shape}
 use Rattle.game_model.proofs.Games.{keeps-span, max-bound, place-lt}
@@ -22,10 +22,10 @@ use Rattle.belief.proofs.Landings.{each-filter}
 use Rattle.belief.specs.Beliefs.{mix_weight, weight_at}
 use Rattle.belief.specs.Mixes.{AreMixes, MixesData}
 use Rattle.point_set.specs.Faults.{SplitsHold}
-use Rattle.point_set.specs.Members.{IsAfter, IsMember, IsNamed, branch_of, brought, counted, counted_after, counted_size, data_of, most_points, point_data, row_rewards}
+use Rattle.point_set.specs.Members.{IsAfter, IsMember, IsNamed, brought, counted, counted_after, counted_size, data_of, most_points, point_data, row_rewards}
 use Rattle.point_set.specs.Points.{Point, PointFits, Share, most_share, point_of, point_worth, points_of, share_of, shares_at}
 use Rattle.point_set.specs.declared.points.Point.{Point as PointParts}
-use Rattle.point_set.specs.declared.points.Share.{Share as ShareParts}
+use Rattle.game_model.specs.declared.branches.Branch.{Branch as ShareParts}
 use Rattle.point_set.proofs.Masses.{belief-total, masses-sum, mix-total, shares-size, sum-below-same, sum-below-scaled}
 use Rattle.point_set.proofs.Named.{named-all, shared-is, shares-at}
 use Rattle.point_set.proofs.Running.{total-size}

@@ -2,17 +2,13 @@
 use Rattle.std.specs.Prelude.{ℕ, ℤ, pos, Bool, List, length, map, filter, sum_by, unsigned_abs, ◌*◌, ◌*ℤ◌, ◌<◌, ◌==◌, ◌&&◌}
 use Rattle.std.specs.List.{AllByRecursion}
 use Rattle.scaled_num.specs.Sums.{below, total}
-use Rattle.game_model.specs.Branches.{Branch}
+use Rattle.game_model.specs.Branches.{Branch, branch_of}
 use Rattle.game_model.specs.Game.{GameData, reward_at}
 use Rattle.belief.specs.Beliefs.{mix_weight}
 use Rattle.belief.specs.Mixes.{MixesData}
 use Rattle.point_set.specs.Points.{Point, PointData, PointFits}
 use Rattle.point_set.specs.declared.points.Point.{Point as PointParts}
-use Rattle.point_set.specs.declared.points.Share.{Share as ShareParts}
-
--- a share as a branch
-abbrev pub branch_of : ShareParts → Branch
-branch_of share = record { own = share.a; seen = share.o; member = share.k; weight = share.weight }
+use Rattle.game_model.specs.declared.branches.Branch.{Branch as ShareParts}
 
 -- a point as data
 abbrev pub point_data : PointParts → PointData

@@ -17,7 +17,8 @@ mod tests;
 mod times;
 mod values;
 
-pub use points::{MOST_SHARE, Point, Share};
+pub use game_model::Branch as Share;
+pub use points::{MOST_SHARE, Point};
 pub use sets::{MOST_POINTS, PointSet, PushFault};
 pub use split::{MOST_ITEMS, Split};
 pub use stands::PointFault;

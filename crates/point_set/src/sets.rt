@@ -1,3 +1,5 @@
+//! The set of a splitting strategy's points.
+
 ghost use Rattle.point_set.specs.Corners.{HasCorner, IsCurrentCorner};
 ghost use Rattle.point_set.specs.Faults.{FailsFirst, SplitsHold};
 ghost use Rattle.point_set.specs.Members.{most_points, point_data};
@@ -7,7 +9,7 @@ ghost use Rattle.point_set.specs.Split.{IsSplit, IsWanted, MakesUp};
 ghost use Rattle.game_model.specs.Game.{numbers};
 ghost use Rattle.scaled_num.specs.Sums.{sum_of};
 ghost use Rattle.std.specs.List.{AllByRecursion};
-ghost use Rattle.std.specs.Prelude.{IfOk, IfSome, IsErrOf, IsNone, OnErr, OnOk, [], length, slice_index_or, ℕ, ◌++◌, ◌<◌, ◌↔◌, ◌∷◌, ◌≡◌, ◌≤ℤ◌, ◌≤◌};
+ghost use Rattle.std.specs.Prelude.{IfOk, IfSome, IsErrOf, IsNone, IsOk, OnErr, OnOk, [], length, slice_index_or, vec_capacity, vec_len, ℕ, ◌++◌, ◌+◌, ◌<◌, ◌↔◌, ◌∷◌, ◌≡◌, ◌≤ℤ◌, ◌≤◌};
 
 use crate::corners::{NO_CORNER, corners_with};
 use crate::gaps::renew_gaps;
@@ -17,7 +19,7 @@ use crate::split::{Split, split_mass};
 use crate::stands::{PointFault, first_fault};
 use crate::values::worth_after;
 use game_model::{Game, MOST_STATES};
-use std::alloc::Global;
+use std::alloc::{AllocError, Global};
 use std::marker::Model;
 
 /// The most points of a set.
@@ -46,19 +48,21 @@ impl Model for PointSet {
     ghost use Rattle.point_set.specs.Kept.{IsKept};
     ghost use Rattle.point_set.specs.Members.{point_data};
     ghost use Rattle.point_set.specs.Points.{PointData};
-    ghost use Rattle.std.specs.Prelude.{List, map};
+    ghost use Rattle.game_model.specs.Sets.{SetData};
+    ghost use Rattle.std.specs.Prelude.{map, vec_capacity, vec_len, ◌-◌, ◌≤◌};
 
-    ghost Value = { List PointData };
+    ghost Value = { SetData PointData };
 
-    ghost view = { λ set. map point_data set.points.items };
+    ghost view = { λ set. record { members = map point_data set.points.items; spare = vec_capacity set.gaps - vec_len set.gaps } };
 
-    ghost invariant = { λ set. IsKept (map point_data set.points.items) set.corners set.gaps.items };
+    ghost invariant = { λ set. IsKept (map point_data set.points.items) set.corners set.gaps.items × (vec_capacity set.gaps ≤ vec_capacity set.points) };
 }
 
 impl PointSet {
     /// A set for the points of a game, empty at first. It takes no memory yet.
     pub fn new(alloc: Global, _game: &Game) -> PointSet
-        ensures { result ≡ [] }
+        ensures none { result.members ≡ [] }
+        ensures no_spare { result.spare ≡ 0 }
     {
         PointSet {
             points: Vec::new(alloc),
@@ -69,16 +73,16 @@ impl PointSet {
 
     /// The number of points.
     pub fn len(&self) -> u32
-        ensures count { result ≡ length self.now }
-        ensures few { length self.now ≤ most_points }
+        ensures count { result ≡ length self.now.members }
+        ensures few { length self.now.members ≤ most_points }
     {
         self.points.len() as u32
     }
 
     /// The point of a number.
     pub fn point(&self, j: u32) -> &Point
-        requires { j < length self.now }
-        ensures { point_data result.now ≡ slice_index_or self.now j no_point }
+        requires { j < length self.now.members }
+        ensures { point_data result.now ≡ slice_index_or self.now.members j no_point }
     {
         &self.points[j as usize]
     }
@@ -90,33 +94,46 @@ impl PointSet {
     /// `Full` where the set has 1,024 points. `OutOfMemory` where no memory is to be had. A refusal drops the point and
     /// leaves the set as it was.
     pub fn push(&mut self, point: Point) -> Result<u32, PushFault>
-        ensures full { IsErrOf result PushFault.Full ↔ (length self.old ≡ most_points) }
-        ensures added { OnOk result (self.new ≡ self.old ++ point_data point ∷ []) }
-        ensures number { IfOk result (λ number. number ≡ length self.old) }
+        ensures full { IsErrOf result PushFault.Full ↔ (length self.old.members ≡ most_points) }
+        ensures added { OnOk result (self.new.members ≡ self.old.members ++ point_data point ∷ []) }
+        ensures number { IfOk result (λ number. number ≡ length self.old.members) }
         ensures unchanged { OnErr result (self.new ≡ self.old) }
+        ensures room { 1 ≤ self.old.spare → length self.old.members < most_points → IsOk result }
+        ensures lowers { 1 ≤ self.old.spare → OnOk result (self.new.spare + 1 ≡ self.old.spare) }
     {
         if self.points.len() == MOST_POINTS {
             return Err(PushFault::Full);
         }
+        if make_room(&mut self.points, &mut self.gaps, 1).is_err() {
+            return Err(PushFault::OutOfMemory);
+        }
         let number = self.points.len() as u32;
         let corners = corners_with(self.corners, &self.points, &point);
-        if self.gaps.push(0).is_err() {
-            return Err(PushFault::OutOfMemory);
-        }
-        if self.points.push(point).is_err() {
-            self.gaps.pop();
-            return Err(PushFault::OutOfMemory);
-        }
+        self.gaps.push_reserved(0);
+        self.points.push_reserved(point);
         renew_gaps(&self.points, &self.corners, &corners, &mut self.gaps);
         self.corners = corners;
         Ok(number)
     }
 
+    /// Takes memory for so many more points, where the set has none to spare for them.
+    ///
+    /// # Errors
+    ///
+    /// Where no memory is to be had. A refusal leaves the set as it was.
+    pub fn reserve(&mut self, more: u32) -> Result<(), AllocError>
+        ensures members { self.new.members ≡ self.old.members }
+        ensures spare { OnOk result (more ≤ self.new.spare) }
+        ensures unchanged { OnErr result (self.new ≡ self.old) }
+    {
+        make_room(&mut self.points, &mut self.gaps, more as usize)
+    }
+
     /// The current corner of state `s`: the first point of least value among those whose belief is sure of `s`. It takes
     /// no memory.
     pub fn corner(&self, s: u32) -> u32
-        requires { HasCorner self.now s }
-        ensures { IsCurrentCorner self.now s result }
+        requires { HasCorner self.now.members s }
+        ensures { IsCurrentCorner self.now.members s result }
     {
         self.corners[s as usize]
     }
@@ -124,9 +141,9 @@ impl PointSet {
     /// The current corners of the first states, by state.
     fn first_corners(&self, states: usize) -> &[u32]
         requires few { states ≤ 16 }
-        requires corners { (s : ℕ) → s < states → HasCorner self.now s }
+        requires corners { (s : ℕ) → s < states → HasCorner self.now.members s }
         ensures count { length result.now ≡ states }
-        ensures current { AreCorners self.now states (λ s. slice_index_or result.now s 0) }
+        ensures current { AreCorners self.now.members states (λ s. slice_index_or result.now s 0) }
     {
         &self.corners[..states]
     }
@@ -136,8 +153,8 @@ impl PointSet {
     /// the rest. It is in units, times the mass. The points fit one game with a point at each corner, and the mass is
     /// over its states, with a total of at most 2^36 times the row total. It takes no memory.
     pub fn sawtooth(&self, mass: &[i128]) -> i128
-        requires { AreMeasured self.now mass.now }
-        ensures { IsSawtooth self.now mass.now result }
+        requires { AreMeasured self.now.members mass.now }
+        ensures { IsSawtooth self.now.members mass.now result }
     {
         sawtooth_bound(&self.points, &self.corners, &self.gaps, mass)
     }
@@ -148,11 +165,11 @@ impl PointSet {
     /// numbers rise, the weights are 0 to 2^30, and at most eight wanted points are no current corner; the mass is as
     /// for `sawtooth`. It takes no memory.
     pub fn split_into(&self, wanted: &[(u32, i128)], mass: &[i128], out: &mut Split)
-        requires measured { AreMeasured self.now mass.now }
-        requires wanted { IsWanted self.now (length mass.now) wanted.now }
-        ensures split { IsSplit self.now wanted.now mass.now out.new }
-        ensures makes_up { MakesUp self.now out.new mass.now }
-        ensures inside { AllByRecursion (λ item. item.0 < length self.now) out.new }
+        requires measured { AreMeasured self.now.members mass.now }
+        requires wanted { IsWanted self.now.members (length mass.now) wanted.now }
+        ensures split { IsSplit self.now.members wanted.now mass.now out.new }
+        ensures makes_up { MakesUp self.now.members out.new mass.now }
+        ensures inside { AllByRecursion (λ item. item.0 < length self.now.members) out.new }
         ensures most { AllByRecursion (λ item. item.1 ≤ℤ sum_of mass.now) out.new }
     {
         let corners = self.first_corners(mass.len());
@@ -163,11 +180,11 @@ impl PointSet {
     /// at which one fails: of the split rule by own action, observation and next state, and only then of the value
     /// rule by own action. It takes no memory.
     pub fn stands(&self, game: &Game, j: u32) -> Option<PointFault>
-        requires member { j < length self.now }
-        requires fits { AllByRecursion (PointFits game.now most_points) self.now }
-        requires named { AllByRecursion (λ share. share.member < length self.now) (slice_index_or self.now j no_point).splits }
-        ensures none { IsNone result ↔ PointStands (numbers game.now) (points_of self.now) (points_of self.now j) }
-        ensures first { IfSome result (FailsFirst (numbers game.now) (points_of self.now) (points_of self.now j)) }
+        requires member { j < length self.now.members }
+        requires fits { AllByRecursion (PointFits game.now most_points) self.now.members }
+        requires named { AllByRecursion (λ share. share.member < length self.now.members) (slice_index_or self.now.members j no_point).splits }
+        ensures none { IsNone result ↔ PointStands (numbers game.now) (points_of self.now.members) (points_of self.now.members j) }
+        ensures first { IfSome result (FailsFirst (numbers game.now) (points_of self.now.members) (points_of self.now.members j)) }
     {
         first_fault(game, &self.points, &self.points[j as usize])
     }
@@ -177,12 +194,33 @@ impl PointSet {
     /// need not be in the set. It takes no memory.
     pub fn stage_worth(&self, game: &Game, point: &Point, a: u32) -> i128
         requires own { a < game.now.shape.own_actions }
-        requires fits { AllByRecursion (PointFits game.now most_points) self.now }
+        requires fits { AllByRecursion (PointFits game.now most_points) self.now.members }
         requires point { PointFits game.now most_points (point_data point.now) }
-        requires named { AllByRecursion (λ share. share.member < length self.now) (point_data point.now).splits }
-        requires splits { SplitsHold (numbers game.now) (points_of self.now) (point_of (point_data point.now)) }
-        ensures { result ≡ point_worth (numbers game.now) (points_of self.now) (point_of (point_data point.now)) a }
+        requires named { AllByRecursion (λ share. share.member < length self.now.members) (point_data point.now).splits }
+        requires splits { SplitsHold (numbers game.now) (points_of self.now.members) (point_of (point_data point.now)) }
+        ensures { result ≡ point_worth (numbers game.now) (points_of self.now.members) (point_of (point_data point.now)) a }
     {
         worth_after(game, &self.points, point, a)
     }
+}
+
+/// Makes room for so many more points and gaps; where there is room, nothing changes.
+fn make_room(points: &mut Vec<Point>, gaps: &mut Vec<i128>, more: usize) -> Result<(), AllocError>
+    requires both { vec_len gaps.old ≡ vec_len points.old }
+    requires wide { vec_capacity gaps.old ≤ vec_capacity points.old }
+    ensures points { points.new.items ≡ points.old.items }
+    ensures gaps { gaps.new.items ≡ gaps.old.items }
+    ensures point_count { vec_len points.new ≡ vec_len points.old }
+    ensures gap_count { vec_len gaps.new ≡ vec_len gaps.old }
+    ensures wide { vec_capacity gaps.new ≤ vec_capacity points.new }
+    ensures room { OnOk result (vec_len gaps.new + more ≤ vec_capacity gaps.new) }
+    ensures has { vec_len gaps.old + more ≤ vec_capacity gaps.old → IsOk result }
+    ensures same { vec_len gaps.old + more ≤ vec_capacity gaps.old → vec_capacity gaps.new ≡ vec_capacity gaps.old }
+    ensures unchanged { OnErr result (vec_capacity gaps.new ≡ vec_capacity gaps.old) }
+{
+    if more <= gaps.capacity() - gaps.len() {
+        return Ok(());
+    }
+    points.reserve(more)?;
+    gaps.reserve_exact(points.capacity() - points.len())
 }

@@ -1,14 +1,14 @@
-ghost use Rattle.game_model.specs.Branches.{AreRising};
+ghost use Rattle.game_model.specs.Branches.{AreRising, branch_of};
 ghost use Rattle.game_model.specs.Game.{IsWithin, numbers};
 ghost use Rattle.point_set.specs.Faults.{FailsFirstAfter, FailsFirstAt, SplitFailsFirst, SplitsHold};
-ghost use Rattle.point_set.specs.Members.{IsAfter, IsMember, IsNamed, branch_of, brought, data_of, most_points, point_data};
+ghost use Rattle.point_set.specs.Members.{IsAfter, IsMember, IsNamed, brought, data_of, most_points, point_data};
 ghost use Rattle.point_set.specs.Points.{PointFits, SplitHolds, most_share, point_of, points_of};
 ghost use Rattle.std.specs.List.{AllByRecursion};
 ghost use Rattle.std.specs.Prelude.{IfSome, IsNone, filter, length, map, pos, sum_by, ℕ, ◌<◌, ◌≡◌, ◌≤◌};
 
-use crate::points::{Point, Share};
+use crate::points::Point;
 use belief::mass;
-use game_model::{Game, MOST_STATES, law_game};
+use game_model::{Branch, Game, MOST_STATES, law_game};
 
 /// The first place at which the split rule fails, by own action, observation and next state.
 pub fn first_split(game: &Game, points: &[Point], point: &Point) -> Option<(u32, u32, u32)>
@@ -61,7 +61,7 @@ fn first_state(game: &Game, points: &[Point], point: &Point, a: u32, o: u32) -> 
 }
 
 /// The shares after an own action and an observation.
-pub fn shares_after(splits: &[Share], a: u32, o: u32) -> &[Share]
+pub fn shares_after(splits: &[Branch], a: u32, o: u32) -> &[Branch]
     requires { AreRising (map branch_of splits.now) }
     ensures { result.now ≡ filter (IsAfter a o) splits.now }
 {
@@ -73,7 +73,7 @@ pub fn shares_after(splits: &[Share], a: u32, o: u32) -> &[Share]
 
 /// What shares bring to a next state: the sum of their weights times the weight of the state in their points'
 /// beliefs.
-fn shared(game: &Game, points: &[Point], shares: &[Share], s: u32) -> i128
+fn shared(game: &Game, points: &[Point], shares: &[Branch], s: u32) -> i128
     requires named { AllByRecursion (IsNamed points.now) shares.now }
     requires few { length shares.now ≤ 1024 }
     requires weights { AllByRecursion (λ share. IsWithin (pos 1) most_share share.weight) shares.now }

@@ -170,7 +170,7 @@ fn three_points(alloc: Global, game: &Game) -> Result<PointSet, AllocError>
     requires states { game.now.shape.states ≡ 2 }
     requires informed { game.now.shape.informed_actions ≡ 1 }
     requires span { span game.now ≡ 65536 }
-    ensures { IfOk result (λ set. AreMeasured set (pos 2 ∷ pos 3 ∷ [])) }
+    ensures { IfOk result (λ set. AreMeasured set.members (pos 2 ∷ pos 3 ∷ [])) }
 {
     law_game(game);
     let first = plain_point(alloc, game, Belief::corner(2, 0), 65_536)?;
@@ -214,4 +214,14 @@ fn the_sawtooth_takes_the_even_point_twice(rt: HostRuntime) {
     };
     assert_eq!(rt; number, 3);
     assert_eq!(rt; set.corner(1), 3);
+}
+
+#[test]
+fn an_empty_set_reserves_two_places(rt: HostRuntime) {
+    let Ok(game) = pennies(rt.alloc()) else {
+        panic!(rt; "the game is refused");
+    };
+    let mut set = PointSet::new(rt.alloc(), &game);
+    assert!(rt; matches!(set.reserve(2), Ok(())));
+    assert_eq!(rt; set.len(), 0);
 }

@@ -1,18 +1,18 @@
 ghost use Rattle.belief.specs.Beliefs.{weight_at};
-ghost use Rattle.game_model.specs.Branches.{AreRising};
+ghost use Rattle.game_model.specs.Branches.{AreRising, branch_of};
 ghost use Rattle.game_model.specs.Game.{IsBelief, numbers};
 ghost use Rattle.point_set.specs.Faults.{SplitsHold, ValueFailsFirst, ValuesHold};
-ghost use Rattle.point_set.specs.Members.{IsAfter, IsMember, IsNamed, branch_of, counted, counted_after, counted_size, data_of, point_data, row_rewards};
+ghost use Rattle.point_set.specs.Members.{IsAfter, IsMember, IsNamed, counted, counted_after, counted_size, data_of, point_data, row_rewards};
 ghost use Rattle.point_set.specs.Points.{ValueHolds, point_of, point_worth, points_of};
 ghost use Rattle.scaled_num.specs.Sums.{below, total};
 ghost use Rattle.std.specs.Bool.{IsTrue};
 ghost use Rattle.std.specs.List.{AllByRecursion};
 ghost use Rattle.std.specs.Prelude.{IfSome, IsNone, filter, map, pos, sum_by, unsigned_abs, ◌*ℤ◌, ◌<◌, ◌^◌, ◌↔◌, ◌≡◌, ◌≤◌};
 
-use crate::points::{Point, Share};
+use crate::points::Point;
 use crate::splits::shares_after;
 use belief::{Belief, Mixes};
-use game_model::{Game, MIX_TOTAL, UNITS, law_game};
+use game_model::{Branch, Game, MIX_TOTAL, UNITS, law_game};
 
 /// The first own action at which the value rule fails.
 pub fn first_value(game: &Game, points: &[Point], point: &Point) -> Option<u32>
@@ -94,7 +94,7 @@ fn mixed_reward(game: &Game, mixes: &Mixes, s: u32, a: u32) -> i128
 }
 
 /// The sum over the observations and the shares after an own action of the share's weight times its point's value.
-fn counted(game: &Game, points: &[Point], splits: &[Share], a: u32) -> i128
+fn counted(game: &Game, points: &[Point], splits: &[Branch], a: u32) -> i128
     requires named { AllByRecursion (IsNamed points.now) splits.now }
     requires rising { AreRising (map branch_of splits.now) }
     requires small { sum_by (λ o. counted_size (points_of (data_of points.now)) (filter (IsAfter a o) splits.now)) (below game.now.shape.observations) ≤ 2 ^ 124 }
@@ -108,7 +108,7 @@ fn counted(game: &Game, points: &[Point], splits: &[Share], a: u32) -> i128
 }
 
 /// The sum over shares of the share's weight times its point's value.
-fn counted_shares(points: &[Point], shares: &[Share]) -> i128
+fn counted_shares(points: &[Point], shares: &[Branch]) -> i128
     requires named { AllByRecursion (IsNamed points.now) shares.now }
     requires small { counted_size (points_of (data_of points.now)) shares.now ≤ 2 ^ 124 }
     ensures { result ≡ total (counted (points_of (data_of points.now))) shares.now }

@@ -53,7 +53,7 @@ fn are_parts(mass: &[i128]) -> bool
 
 /// Whether a certificate fits a game, both of its sets are full, and its first points are the corners.
 pub fn are_full(game: &Game, certificate: &Certificate) -> bool
-    ensures { IsTrue result → AreFull game.now certificate.now.nodes certificate.now.points }
+    ensures { IsTrue result → AreFull game.now certificate.now.nodes.members certificate.now.points.members }
 {
     law_game(game);
     certificate.fits(game)
@@ -65,8 +65,8 @@ pub fn are_full(game: &Game, certificate: &Certificate) -> bool
 /// Whether the first points are the corners of so many states.
 fn has_corners(points: &PointSet, states: u32) -> bool
     requires few { states ≤ 16 }
-    requires inside { states ≤ length points.now }
-    ensures { IsTrue result → (s : ℕ) → s < states → HasCorner points.now s }
+    requires inside { states ≤ length points.now.members }
+    ensures { IsTrue result → (s : ℕ) → s < states → HasCorner points.now.members s }
 {
     for s in 0..states {
         if !has_corner(points, states, s) {
@@ -80,8 +80,8 @@ fn has_corners(points: &PointSet, states: u32) -> bool
 fn has_corner(points: &PointSet, states: u32, s: u32) -> bool
     requires state { s < states }
     requires few { states ≤ 16 }
-    requires inside { states ≤ length points.now }
-    ensures { IsTrue result → HasCorner points.now s }
+    requires inside { states ≤ length points.now.members }
+    ensures { IsTrue result → HasCorner points.now.members s }
 {
     points.point(s).belief.same(&Belief::corner(states, s))
 }
@@ -89,8 +89,8 @@ fn has_corner(points: &PointSet, states: u32, s: u32) -> bool
 /// The current corners of the first states.
 fn current_corners(points: &PointSet, states: u32) -> [u32; MOST_STATES]
     requires few { states ≤ 16 }
-    requires corners { (s : ℕ) → s < states → HasCorner points.now s }
-    ensures { AreCorners points.now states (λ s. slice_index_or result s 0) }
+    requires corners { (s : ℕ) → s < states → HasCorner points.now.members s }
+    ensures { AreCorners points.now.members states (λ s. slice_index_or result s 0) }
 {
     let mut corners = [0; MOST_STATES];
     for s in 0..states {
@@ -102,8 +102,8 @@ fn current_corners(points: &PointSet, states: u32) -> [u32; MOST_STATES]
 /// Whether this is a list of at most eight wanted points.
 pub fn are_wanted(points: &PointSet, states: u32, wanted: &[(u32, i128)]) -> bool
     requires few { states ≤ 16 }
-    requires corners { (s : ℕ) → s < states → HasCorner points.now s }
-    ensures { IsTrue result → IsWanted points.now states wanted.now }
+    requires corners { (s : ℕ) → s < states → HasCorner points.now.members s }
+    ensures { IsTrue result → IsWanted points.now.members states wanted.now }
 {
     let _corners = current_corners(points, states);
     if wanted.is_empty() || wanted.len() > 8 {
@@ -129,7 +129,7 @@ fn are_rising(wanted: &[(u32, i128)]) -> bool
 
 /// Whether wanted points are points of a set.
 fn are_inside(points: &PointSet, wanted: &[(u32, i128)]) -> bool
-    ensures { IsTrue result → AllByRecursion (λ want. want.0 < length points.now) wanted.now }
+    ensures { IsTrue result → AllByRecursion (λ want. want.0 < length points.now.members) wanted.now }
 {
     let count = points.len();
     wanted.iter().all(|want| want.0 < count)

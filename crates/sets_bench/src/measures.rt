@@ -46,8 +46,8 @@ pub fn measure(
     wanted: &[(u32, i128)],
     masses: &[[i128; MOST_STATES]],
 ) -> io::Result<()>
-    requires full { AreFull game.now certificate.now.nodes certificate.now.points }
-    requires wanted { IsWanted certificate.now.points game.now.shape.states wanted.now }
+    requires full { AreFull game.now certificate.now.nodes.members certificate.now.points.members }
+    requires wanted { IsWanted certificate.now.points.members game.now.shape.states wanted.now }
     requires masses { AllByRecursion (IsMass game.now) masses.now }
 {
     let mut took = u128::MAX;
@@ -86,8 +86,8 @@ fn answers_of(
     wanted: &[(u32, i128)],
     masses: &[[i128; MOST_STATES]],
 ) -> i128
-    requires full { AreFull game.now certificate.now.nodes certificate.now.points }
-    requires wanted { IsWanted certificate.now.points game.now.shape.states wanted.now }
+    requires full { AreFull game.now certificate.now.nodes.members certificate.now.points.members }
+    requires wanted { IsWanted certificate.now.points.members game.now.shape.states wanted.now }
     requires masses { AllByRecursion (IsMass game.now) masses.now }
 {
     match call {
@@ -99,8 +99,8 @@ fn answers_of(
 
 /// What the nodes are worth at each mass, added up.
 fn worths(game: &Game, nodes: &NodeSet, masses: &[[i128; MOST_STATES]]) -> i128
-    requires full { length nodes.now ≡ most_nodes }
-    requires fit { AllByRecursion (NodeFits game.now most_nodes) nodes.now }
+    requires full { length nodes.now.members ≡ most_nodes }
+    requires fit { AllByRecursion (NodeFits game.now most_nodes) nodes.now.members }
     requires masses { AllByRecursion (IsMass game.now) masses.now }
 {
     law_game(game);
@@ -113,8 +113,8 @@ fn worths(game: &Game, nodes: &NodeSet, masses: &[[i128; MOST_STATES]]) -> i128
 
 /// The sawtooth bound of each mass, added up.
 fn bounds(game: &Game, points: &PointSet, masses: &[[i128; MOST_STATES]]) -> i128
-    requires fit { AllByRecursion (PointFits game.now most_points) points.now }
-    requires corners { (s : ℕ) → s < game.now.shape.states → HasCorner points.now s }
+    requires fit { AllByRecursion (PointFits game.now most_points) points.now.members }
+    requires corners { (s : ℕ) → s < game.now.shape.states → HasCorner points.now.members s }
     requires masses { AllByRecursion (IsMass game.now) masses.now }
 {
     law_game(game);
@@ -132,9 +132,9 @@ fn items(
     wanted: &[(u32, i128)],
     masses: &[[i128; MOST_STATES]],
 ) -> i128
-    requires fit { AllByRecursion (PointFits game.now most_points) points.now }
-    requires corners { (s : ℕ) → s < game.now.shape.states → HasCorner points.now s }
-    requires wanted { IsWanted points.now game.now.shape.states wanted.now }
+    requires fit { AllByRecursion (PointFits game.now most_points) points.now.members }
+    requires corners { (s : ℕ) → s < game.now.shape.states → HasCorner points.now.members s }
+    requires wanted { IsWanted points.now.members game.now.shape.states wanted.now }
     requires masses { AllByRecursion (IsMass game.now) masses.now }
 {
     law_game(game);

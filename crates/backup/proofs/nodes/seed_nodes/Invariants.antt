@@ -6,6 +6,6 @@ use Rattle.backup.proofs.nodes.seed_nodes.Given as goal
 
 abbrev pub invariant-loop-a : goal.invariant-loop-a
 invariant-loop-a l = record {
-  count : length l.nodes ≡ l.a;
-  each : (k : ℕ) → k < l.a → IsSeedNode l.fn.game k (slice_index_or l.nodes k no_node);
+  count : length l.nodes.members ≡ l.a;
+  each : (k : ℕ) → k < l.a → IsSeedNode l.fn.game k (slice_index_or l.nodes.members k no_node);
 }

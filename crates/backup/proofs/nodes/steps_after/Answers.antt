@@ -1,9 +1,8 @@
 use Rattle.std.proofs.Common.{◌≡◌, ◌∙◌, ◌++◌, ◌∷◌, [], List, ap, map, sym}
 use Rattle.std.specs.Prelude.{pos}
 use Rattle.std.proofs.lemmas.List.{map-append}
-use Rattle.alpha_set.specs.Members.{branch_of}
-use Rattle.alpha_set.specs.declared.nodes.Step.{Step}
-use Rattle.game_model.specs.Branches.{Branch, mix_total}
+use Rattle.game_model.specs.declared.branches.Branch.{Branch as Step}
+use Rattle.game_model.specs.Branches.{Branch, branch_of, mix_total}
 use Rattle.backup.proofs.Places.{map-below-more}
 use Rattle.backup.proofs.nodes.steps_after.Goals as goal
 

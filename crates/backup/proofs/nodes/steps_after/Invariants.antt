@@ -1,6 +1,6 @@
 use Rattle.std.proofs.Common.{◌≡◌}
 use Rattle.std.specs.Prelude.{map}
-use Rattle.alpha_set.specs.Members.{branch_of}
+use Rattle.game_model.specs.Branches.{branch_of}
 use Rattle.backup.specs.Steps.{always_steps}
 use Rattle.backup.proofs.nodes.steps_after.Given as goal
 

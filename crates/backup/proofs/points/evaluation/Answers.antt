@@ -55,5 +55,5 @@ returns c =
     let high : w ≤ℤ (q *ℤ b) = omega (arith, sums, upper) in
     let low : (q *ℤ b) <ℤ (w +ℤ b) = omega (arith, sums, lower) in
     let is = scale-is g c.law_game.ensures.accepted in
-    simp to_z-of_z (evaluation-is (numbers g) (points_of c.args.points.now) (point_of (point_data c.args.point.now)) w q c.greatest_worth-worth.ensures
+    simp to_z-of_z (evaluation-is (numbers g) (points_of c.args.points.now.members) (point_of (point_data c.args.point.now)) w q c.greatest_worth-worth.ensures
     (ceil-is w q n (subst (λ (z : ℤ). w ≤ℤ (q *ℤ z)) is high) (subst (λ (z : ℤ). (q *ℤ z) <ℤ (w +ℤ z)) is low)))

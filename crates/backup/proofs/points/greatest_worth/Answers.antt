@@ -11,7 +11,7 @@ use Rattle.backup.proofs.points.greatest_worth.Goals as goal
 
 pub loop-a-preserved : goal.loop-a-preserved
 loop-a-preserved c =
-    let f : ℕ → ℤ = point_worth (numbers c.args.game.now) (points_of c.args.points.now) (point_of (point_data c.args.point.now)) in
+    let f : ℕ → ℤ = point_worth (numbers c.args.game.now) (points_of c.args.points.now.members) (point_of (point_data c.args.point.now)) in
     let x : ℤ = c.loop-a.most in
     let y : ℤ = c.stage_worth.result in
     let x_fits : FitsSigned w128 x = search rules in

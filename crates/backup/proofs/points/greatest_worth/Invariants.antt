@@ -5,4 +5,4 @@ use Rattle.backup.specs.Rounds.{IsGreatestOf}
 use Rattle.backup.proofs.points.greatest_worth.Given as goal
 
 abbrev pub invariant-loop-a : goal.invariant-loop-a
-invariant-loop-a l = IsGreatestOf (point_worth (numbers l.fn.game) (points_of l.fn.points) (point_of (point_data l.fn.point))) l.a l.most
+invariant-loop-a l = IsGreatestOf (point_worth (numbers l.fn.game) (points_of l.fn.points.members) (point_of (point_data l.fn.point))) l.a l.most

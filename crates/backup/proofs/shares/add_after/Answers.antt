@@ -1,5 +1,5 @@
 use Rattle.std.proofs.Common.{map}
-use Rattle.point_set.specs.Members.{branch_of}
+use Rattle.game_model.specs.Branches.{branch_of}
 use Rattle.backup.proofs.ShareLists.{own-more}
 use Rattle.backup.proofs.shares.add_after.Goals as goal
 

@@ -1,6 +1,6 @@
 use Rattle.std.proofs.Common.{◌≡◌, ◌++◌}
 use Rattle.std.specs.Prelude.{filter, map}
-use Rattle.point_set.specs.Members.{branch_of}
+use Rattle.game_model.specs.Branches.{branch_of}
 use Rattle.backup.specs.Seeds.{has_weight}
 use Rattle.backup.specs.Shares.{own_shares}
 use Rattle.backup.proofs.shares.add_after.Given as goal

@@ -3,9 +3,8 @@ use Rattle.std.specs.Prelude.{ℤ, pos, FitsSigned, map}
 use Rattle.std.specs.Int.{w128}
 use Rattle.std.proofs.lemmas.Int.{to_z-of_z}
 use Rattle.scaled_num.specs.Share.{at}
-use Rattle.game_model.specs.Branches.{Branch}
-use Rattle.point_set.specs.Members.{branch_of}
-use Rattle.point_set.specs.declared.points.Share.{Share}
+use Rattle.game_model.specs.Branches.{Branch, branch_of}
+use Rattle.game_model.specs.declared.branches.Branch.{Branch as Share}
 use Rattle.backup.proofs.ShareLists.{row-left, row-taken, weighs, weighs-not}
 use Rattle.backup.proofs.shares.add_row.Goals as goal
 use Rattle.backup.proofs.shares.add_row.Goals.{then-weighs+in_ok-push, else-weighs}

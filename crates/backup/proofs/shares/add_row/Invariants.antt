@@ -1,7 +1,7 @@
 use Rattle.std.proofs.Common.{◌≡◌, ◌++◌}
 use Rattle.std.specs.Prelude.{filter, map}
 use Rattle.scaled_num.specs.Share.{at}
-use Rattle.point_set.specs.Members.{branch_of}
+use Rattle.game_model.specs.Branches.{branch_of}
 use Rattle.backup.specs.Seeds.{has_weight}
 use Rattle.backup.specs.Shares.{row_shares}
 use Rattle.backup.proofs.shares.add_row.Given as goal

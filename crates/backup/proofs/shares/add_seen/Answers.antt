@@ -1,8 +1,7 @@
 use Rattle.std.proofs.Common.{◌≡◌, ◌++◌, List, filter, map, subst}
 use Rattle.std.specs.Prelude.{pos, OnOk}
 use Rattle.scaled_num.specs.Share.{at}
-use Rattle.game_model.specs.Branches.{Branch}
-use Rattle.point_set.specs.Members.{branch_of}
+use Rattle.game_model.specs.Branches.{Branch, branch_of}
 use Rattle.backup.specs.Seeds.{has_weight, mass_at}
 use Rattle.backup.proofs.ShareLists.{row-same}
 use Rattle.backup.proofs.shares.add_seen.Goals as goal

@@ -10,4 +10,4 @@ pub loop-j-preserved : goal.loop-j-preserved
 loop-j-preserved c =
     let now = string_bytes c.loop-j.text in
     let step = c.in_ok-point_lines.ensures ∙ ap (λ (point : PointData). now ++ point_text c.loop-j.j point) c.point.ensures in
-    grown-numbered (λ j. point_text j (slice_index_or c.args.points.now j no_point)) c.loop-j.j (string_bytes c.args.text.now) now (string_bytes c.point_lines.new.text) c.loop-j.invariant step
+    grown-numbered (λ j. point_text j (slice_index_or c.args.points.now.members j no_point)) c.loop-j.j (string_bytes c.args.text.now) now (string_bytes c.point_lines.new.text) c.loop-j.invariant step

@@ -6,4 +6,4 @@ use Rattle.cert_text.specs.Text.{point_text}
 use Rattle.cert_text.proofs.printing.points_lines.Given as goal
 
 abbrev pub invariant-loop-j : goal.invariant-loop-j
-invariant-loop-j l = string_bytes l.text ≡ string_bytes l.initial.text ++ flat_map (λ j. point_text j (slice_index_or l.points j no_point)) (below l.j)
+invariant-loop-j l = string_bytes l.text ≡ string_bytes l.initial.text ++ flat_map (λ j. point_text j (slice_index_or l.points.members j no_point)) (below l.j)

@@ -5,6 +5,6 @@ use Rattle.cert_text.proofs.texts.point_set.Given as goal
 
 abbrev pub invariant-loop-spot : goal.invariant-loop-spot
 invariant-loop-spot l = record {
-  same : l.set ++ map spot_data l.spot-iterator.rest.items ≡ map spot_data l.fn.spots.items;
+  same : l.set.members ++ map spot_data l.spot-iterator.rest.items ≡ map spot_data l.fn.spots.items;
   fit : AllByRecursion (AreFit l.fn.game) (map spot_data l.spot-iterator.rest.items);
 }

@@ -3,4 +3,4 @@ use Rattle.alpha_set.specs.Nodes.{NodeFits, no_node}
 use Rattle.controller.proofs.nodes.nodes_fit.Given as goal
 
 abbrev pub invariant-loop-i : goal.invariant-loop-i
-invariant-loop-i l = (k : ℕ) → k < l.i → NodeFits l.game (length l.nodes) (slice_index_or l.nodes k no_node)
+invariant-loop-i l = (k : ℕ) → k < l.i → NodeFits l.game (length l.nodes.members) (slice_index_or l.nodes.members k no_node)

@@ -1,7 +1,6 @@
 use Rattle.std.specs.Prelude.{ℕ, map, pos, slice_index_or, ◌<◌, ◌≡◌}
 use Rattle.scaled_num.specs.Sums.{total}
-use Rattle.game_model.specs.Branches.{branches_at}
-use Rattle.alpha_set.specs.Members.{branch_of}
+use Rattle.game_model.specs.Branches.{branch_of, branches_at}
 use Rattle.controller.proofs.nodes.sums_are.Given as goal
 
 abbrev pub invariant-loop-a : goal.invariant-loop-a

@@ -4,8 +4,8 @@ use Rattle.std.specs.Int.{w128}
 use Rattle.std.proofs.lemmas.Int.{to_z-of_z}
 use Rattle.std.proofs.lemmas.List.{take_all}
 use Rattle.scaled_num.specs.Sums.{total}
-use Rattle.alpha_set.specs.Members.{branch_of}
-use Rattle.alpha_set.specs.declared.nodes.Step.{Step}
+use Rattle.game_model.specs.Branches.{branch_of}
+use Rattle.game_model.specs.declared.branches.Branch.{Branch as Step}
 use Rattle.controller.proofs.Lists.{Next, next, weight_at, weights-at, weights-within}
 use Rattle.controller.proofs.nodes.weight_after.Goals as goal
 

@@ -1,4 +1,4 @@
-use Rattle.alpha_set.specs.Members.{branch_of}
+use Rattle.game_model.specs.Branches.{branch_of}
 use Rattle.controller.proofs.Lists.{SoFar, weight_at}
 use Rattle.controller.proofs.nodes.weight_after.Given as goal
 

@@ -5,7 +5,7 @@ use Rattle.std.specs.List.{AllByRecursion}
 use Rattle.game_model.specs.Game.{IsWithin, numbers}
 use Rattle.point_set.specs.Members.{IsAfter, IsNamed, data_of, point_data}
 use Rattle.point_set.specs.Points.{SplitHolds, most_share, point_of, points_of}
-use Rattle.point_set.specs.declared.points.Share.{Share as ShareParts}
+use Rattle.game_model.specs.declared.branches.Branch.{Branch as ShareParts}
 use Rattle.point_set.proofs.Named.{same-bits, shares-fit, split-holds, split-same}
 use borrow.Author.Count.{below_more}
 use Rattle.point_set.proofs.splits.first_state.Goals as goal

@@ -2,7 +2,7 @@ use Rattle.std.proofs.Common.{rules, ℕ, ◌-◌, ◌≤◌, List, length, take
 use Rattle.std.proofs.lemmas.List.Sorted.{IsPartitionPoint-from_clause}
 use Rattle.belief.proofs.Windows.{rest-is}
 use Rattle.point_set.specs.Members.{IsAfter}
-use Rattle.point_set.specs.declared.points.Share.{Share as ShareParts}
+use Rattle.game_model.specs.declared.branches.Branch.{Branch as ShareParts}
 use Rattle.point_set.proofs.Shares.{ahead, ahead-parted, after-parted, shares-window}
 use Rattle.point_set.proofs.splits.shares_after.Goals as goal
 

@@ -2,14 +2,14 @@ use Rattle.std.proofs.Common.{rules, arith, ◌≡◌, ◌∙◌, List, subst, s
 use Rattle.std.specs.Prelude.{ℕ, FitsSigned}
 use Rattle.std.specs.Int.{w128}
 use Rattle.std.proofs.lemmas.Int.{to_z-of_z}
-use Rattle.game_model.specs.Branches.{AreBranches}
+use Rattle.game_model.specs.Branches.{AreBranches, branch_of}
 use Rattle.game_model.specs.Game.{AreCoprime, IsBelief, numbers}
 use Rattle.belief.specs.Beliefs.{corner_of}
 use Rattle.belief.specs.Mixes.{AreMixes}
 use Rattle.belief.proofs.Parts.{corner-parts}
-use Rattle.point_set.specs.Members.{branch_of, most_points}
+use Rattle.point_set.specs.Members.{most_points}
 use Rattle.point_set.specs.Points.{most_share}
-use Rattle.point_set.specs.declared.points.Share.{Share as ShareParts}
+use Rattle.game_model.specs.declared.branches.Branch.{Branch as ShareParts}
 use Rattle.point_set.proofs.tests.even_point.Goals as goal
 
 pub returns-clause-fits : goal.returns-clause-fits

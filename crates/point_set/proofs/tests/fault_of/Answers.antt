@@ -7,5 +7,5 @@ use Rattle.point_set.proofs.tests.fault_of.Goals as goal
 
 pub stands-requires-clause-named : goal.stands-requires-clause-named
 stands-requires-clause-named c =
-    let one : c.push.new.self ≡ point_data c.in_ok-point.point ∷ [] = c.in-Ok.ensures.added ∙ ap (λ (set : List PointData). set ++ (point_data c.in_ok-point.point ∷ [])) c.new-set.ensures in
+    let one : c.push.new.self.members ≡ point_data c.in_ok-point.point ∷ [] = c.in-Ok.ensures.added ∙ ap (λ (set : List PointData). set ++ (point_data c.in_ok-point.point ∷ [])) c.new-set.ensures.none in
     subst (λ (set : List PointData). AllByRecursion (λ (share : Branch). share.member < length set) (get_or set 0 no_point).splits) (sym one) c.in_ok-point.ensures.named

@@ -18,10 +18,10 @@ returns c =
     let p : PointData = point_data c.in_ok-first.first in
     let q : PointData = point_data c.in_ok-second.second in
     let r : PointData = point_data c.in_ok-third.third in
-    let all : c.push-3.new.self ≡ p ∷ q ∷ r ∷ [] =
+    let all : c.push-3.new.self.members ≡ p ∷ q ∷ r ∷ [] =
     c.in-Ok-push-2.ensures.added
     ∙ ap (λ (ps : List PointData). ps ++ r ∷ []) (c.in-Ok-push.ensures.added
-    ∙ ap (λ (ps : List PointData). ps ++ q ∷ []) (c.in-Ok.ensures.added ∙ ap (λ (ps : List PointData). ps ++ p ∷ []) c.new-set.ensures)) in
+    ∙ ap (λ (ps : List PointData). ps ++ q ∷ []) (c.in-Ok.ensures.added ∙ ap (λ (ps : List PointData). ps ++ p ∷ []) c.new-set.ensures.none)) in
     subst (λ (ps : List PointData). AreMeasured ps (pos 2 ∷ pos 3 ∷ [])) (sym all)
     (three-measured c.args.game.now p q r c.law_game.ensures.accepted c.requires.states c.in_ok-first.ensures.fits c.in_ok-second.ensures.fits c.in_ok-third.ensures.fits
     (two-corner p 0 (omega arith) (c.in_ok-first.ensures.belief ∙ c.corner.ensures)) (two-corner q 1 (omega arith) (c.in_ok-second.ensures.belief ∙ c.corner-2.ensures)))

@@ -7,7 +7,7 @@ use Rattle.scaled_num.specs.Sums.{total}
 use Rattle.belief.proofs.Landings.{each-filter}
 use Rattle.point_set.specs.Members.{IsAfter, IsNamed, counted, counted_size, data_of}
 use Rattle.point_set.specs.Points.{points_of}
-use Rattle.point_set.specs.declared.points.Share.{Share as ShareParts}
+use Rattle.game_model.specs.declared.branches.Branch.{Branch as ShareParts}
 use Rattle.point_set.proofs.Running.{at-most-sum, next-sum, total-size}
 use Rattle.point_set.proofs.values.counted.Goals as goal
 

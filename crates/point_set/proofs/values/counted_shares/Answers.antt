@@ -6,7 +6,7 @@ use Rattle.scaled_num.proofs.Sums.{each-at}
 use Rattle.point_set.specs.Members.{IsNamed, counted, data_of}
 use Rattle.point_set.specs.Points.{Point, points_of}
 use Rattle.point_set.specs.declared.points.Point.{Point as PointParts}
-use Rattle.point_set.specs.declared.points.Share.{Share as ShareParts}
+use Rattle.game_model.specs.declared.branches.Branch.{Branch as ShareParts}
 use Rattle.point_set.proofs.Named.{point-at}
 use Rattle.point_set.proofs.Running.{next-item}
 use Rattle.point_set.proofs.Shares.{no_share}

@@ -4,12 +4,12 @@ use Rattle.std.specs.List.{AllByRecursion}
 use Rattle.std.proofs.lemmas.Int.{to_z-of_z}
 use Rattle.scaled_num.specs.Sums.{below, total}
 use Rattle.belief.specs.Beliefs.{weight_at}
-use Rattle.game_model.specs.Branches.{AreRising}
+use Rattle.game_model.specs.Branches.{AreRising, branch_of}
 use Rattle.game_model.specs.Game.{GameData}
-use Rattle.point_set.specs.Members.{IsAfter, IsNamed, branch_of, counted_after, counted_size, data_of, row_rewards}
+use Rattle.point_set.specs.Members.{IsAfter, IsNamed, counted_after, counted_size, data_of, row_rewards}
 use Rattle.point_set.specs.Points.{points_of}
 use Rattle.point_set.specs.declared.points.Point.{Point as PointParts}
-use Rattle.point_set.specs.declared.points.Share.{Share as ShareParts}
+use Rattle.game_model.specs.declared.branches.Branch.{Branch as ShareParts}
 use Rattle.point_set.proofs.Named.{named-all}
 use Rattle.point_set.proofs.Worth.{counted-small, formed, formed-fits, formed-is, later-size, later_bound, rewards-fit, scale-fits}
 use Rattle.point_set.proofs.values.worth_after.Goals as goal

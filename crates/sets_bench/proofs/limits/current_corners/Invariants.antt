@@ -5,5 +5,5 @@ use Rattle.sets_bench.proofs.limits.current_corners.Given as goal
 abbrev pub invariant-loop-s : goal.invariant-loop-s
 invariant-loop-s l = record {
   places : length l.corners ≡ 16;
-  each : (k : ℕ) → k < l.s → IsCurrentCorner l.points k (slice_index_or l.corners k 0);
+  each : (k : ℕ) → k < l.s → IsCurrentCorner l.points.members k (slice_index_or l.corners k 0);
 }

@@ -1,7 +1,0 @@
-use Rattle.std.specs.Prelude.{ℕ, suc, pos, slice_index_or, ◌<◌}
-use Rattle.game_model.specs.Branches.{IsBranchBefore}
-use Rattle.alpha_set.specs.Members.{branch_of}
-use Rattle.controller.proofs.nodes.are_rising.Given as goal
-
-abbrev pub invariant-loop-i : goal.invariant-loop-i
-invariant-loop-i l = (k : ℕ) → suc k < l.i → IsBranchBefore (branch_of (slice_index_or l.next k (record { a = 0; o = 0; k = 0; weight = pos 0 }))) (branch_of (slice_index_or l.next (suc k) (record { a = 0; o = 0; k = 0; weight = pos 0 })))
