@@ -21,5 +21,5 @@ returns-then-are_rising c =
             (each-map (In (to_z w128 (of_z w128 c.args.most))) branch_of c.args.branches.now (c.are_in_range.ensures.0 t));
       },
       λ h. c.are_in_range.ensures.1 (subst (λ (most : ℤ). AllByRecursion (λ (b : Branch). In most (branch_of b)) c.args.branches.now) (sym same)
-      (each-of-map (In c.args.most) branch_of c.args.branches.now h.each)),
+          (each-of-map (In c.args.most) branch_of c.args.branches.now h.each)),
     )
