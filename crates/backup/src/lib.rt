@@ -2,6 +2,7 @@
 #![tactic(auto)]
 
 mod corners;
+mod laws;
 mod nodes;
 mod points;
 mod seeds;
@@ -9,4 +10,5 @@ mod shares;
 #[cfg(test)]
 mod tests;
 
+pub use laws::law_seeds;
 pub use seeds::seed;

@@ -3,6 +3,7 @@
 
 mod beliefs;
 mod divisors;
+mod laws;
 mod masses;
 mod mixes;
 mod reduced;
@@ -10,6 +11,7 @@ mod reduced;
 mod tests;
 
 pub use beliefs::Belief;
+pub use laws::law_reduced;
 pub use masses::mass;
 pub use mixes::Mixes;
 pub use reduced::reduce;

@@ -8,3 +8,4 @@ pub mod Branches
 pub mod Sets
 pub mod Build
 pub mod Bounds
+pub mod Spans

@@ -18,7 +18,7 @@ use Rattle.point_set.specs.Sawtooth.{AreCorners, IsBound, IsSawtooth, base_cost,
 use Rattle.point_set.specs.Split.{AreTakes, IsSplit, IsWanted, Take, TakesMost, is_corner, less_times, weight_of}
 use Rattle.point_set.specs.Tooth.{HaveToothWeights, IsTooth, IsToothSplit, at_corners, items_cost}
 use Rattle.point_set.proofs.One.{base-one, bound-one, bound-over}
-use Rattle.point_set.proofs.OneShare.{shared-sum}
+use Rattle.scaled_num.proofs.OneShare.{shared-sum}
 use Rattle.point_set.proofs.PointBounds.{times-total}
 use Rattle.point_set.proofs.Rests.{corner-at, corner-other, same-corners}
 use Rattle.point_set.proofs.Taking.{less-at, less-long}
