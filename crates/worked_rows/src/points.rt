@@ -169,7 +169,12 @@ fn plain_point(alloc: Global, game: &Game, belief: Belief, value: i128) -> Resul
 }
 
 /// The points at both corners of that game, each of value 65,536, and a third one.
-fn three_points(alloc: Global, game: &Game, belief: Belief, value: i128) -> Result<PointSet, AllocError>
+fn three_points(
+    alloc: Global,
+    game: &Game,
+    belief: Belief,
+    value: i128,
+) -> Result<PointSet, AllocError>
     requires states { game.now.shape.states ≡ 2 }
     requires informed { game.now.shape.informed_actions ≡ 1 }
     requires span { span game.now ≡ 65536 }
