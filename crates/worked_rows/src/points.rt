@@ -8,9 +8,9 @@ ghost use Rattle.std.specs.List.{AllByRecursion};
 ghost use Rattle.scaled_num.specs.Sums.{sum_of};
 ghost use Rattle.std.specs.Prelude.{IfOk, [], neg_ℤ, pos, ℕ, ◌*ℤ◌, ◌+◌, ◌<◌, ◌^◌, ◌∷◌, ◌≡◌, ◌≤◌};
 
-use point_set::{Point, PointFault, PointSet, PushFault, Share, Split};
 use belief::{Belief, Mixes};
 use game_model::{Game, GameBuilder, GameFault, Shape, law_game};
+use point_set::{Point, PointFault, PointSet, PushFault, Share, Split};
 use std::alloc::{AllocError, Global};
 
 /// Matching pennies in one state, without a future.
