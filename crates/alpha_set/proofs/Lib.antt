@@ -5,3 +5,5 @@ pub mod Wide
 pub mod Filling
 pub mod Rules
 pub mod Products
+pub mod One
+pub mod Spanned

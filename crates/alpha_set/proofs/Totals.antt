@@ -1,12 +1,11 @@
 -- Sums step by step, and how large they are.
-use Rattle.std.proofs.Common.{◌≡◌, ℕ, zero, suc, ◌+◌, ◌*◌, ◌^◌, ◌≤◌, refl, ap, arith, sym, ◌∙◌, add-one}
+use Rattle.std.proofs.Common.{◌≡◌, ℕ, ◌+◌, ◌*◌, ◌^◌, ◌≤◌, refl, ap, arith, sym, ◌∙◌}
 use Rattle.std.specs.Prelude.{ℤ, pos, ◌+ℤ◌, unsigned_abs, FitsSigned}
 use Rattle.std.specs.Int.{w128}
-use Rattle.std.specs.List.{range_with_len}
 use Rattle.std.proofs.lemmas.Int.{ints, fits_signed_from_abs}
 use Rattle.std.proofs.lemmas.Nat.{mul-le}
 use Rattle.scaled_num.specs.Sums.{below, total}
-use Rattle.scaled_num.proofs.Products.{sums, abs-add}
+use Rattle.scaled_num.proofs.Products.{abs-add}
 use Rattle.game_model.specs.Game.{IsWithin}
 use Rattle.scaled_num.proofs.Sums.{total-below-more}
 

@@ -1,11 +1,11 @@
 -- The width rule, and how large both sides of the node rule are under it.
-use Rattle.std.proofs.Common.{◌≡◌, ℕ, suc, ◌+◌, ◌-◌, ◌*◌, ◌/◌, ◌^◌, ◌≤◌, ◌⊎◌, inl, inr, max, List, [], ◌∷◌, refl, ap, arith, subst, ◌∙◌}
+use Rattle.std.proofs.Common.{◌≡◌, ℕ, ◌-◌, ◌*◌, ◌^◌, ◌≤◌, ◌⊎◌, inl, inr, max, List, [], ◌∷◌, refl, ap, arith, subst, ◌∙◌}
 use Rattle.std.specs.Prelude.{ℤ, pos, ◌+ℤ◌, ◌*ℤ◌, ◌≤ℤ◌, unsigned_abs, FitsSigned, fold}
 use Rattle.std.specs.List.{AllByRecursion}
 use Rattle.std.specs.Int.{w128}
 use Rattle.std.proofs.Math.Nat.{mul-le-mul_left, mul-le-mul_right}
 use Rattle.std.proofs.lemmas.Int.{ints, fits_signed_from_abs, unsigned_abs-mul}
-use Rattle.std.proofs.lemmas.Nat.{div_below, mul-le}
+use Rattle.std.proofs.lemmas.Nat.{mul-le}
 use Rattle.game_model.specs.Game.{GameData, IsGame, IsNarrow, IsRewardInRange, greatest_reward, span, unit}
 use Rattle.game_model.specs.Branches.{mix_total}
 use Rattle.game_model.proofs.Worth.{divisor-is, span-small, ceil-small}

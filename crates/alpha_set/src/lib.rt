@@ -1,6 +1,7 @@
 //! Nodes of a controller: each an alpha-vector with a mix of own actions and the steps that follow, kept in a set.
 #![tactic(auto)]
 
+mod laws;
 mod nodes;
 mod sets;
 mod stands;
@@ -8,5 +9,6 @@ mod tables;
 mod worth;
 
 pub use game_model::Branch as Step;
+pub use laws::law_worth;
 pub use nodes::Node;
 pub use sets::{MOST_NODES, NodeSet, PushFault};

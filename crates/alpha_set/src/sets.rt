@@ -5,6 +5,7 @@ ghost use Rattle.alpha_set.specs.Members.{most_nodes, node_data};
 ghost use Rattle.alpha_set.specs.Nodes.{NodeFits, NodeStands, no_node, nodes_of};
 ghost use Rattle.alpha_set.specs.Worth.{AreWeighed, IsWorth};
 ghost use Rattle.game_model.specs.Game.{numbers};
+ghost use Rattle.game_model.specs.Spans.{IsWithinSpan};
 ghost use Rattle.std.specs.List.{AllByRecursion};
 ghost use Rattle.std.specs.Prelude.{IfOk, IfSome, IsErrOf, IsNone, IsOk, OnErr, OnOk, [], length, slice_index_or, vec_capacity, vec_len, ◌++◌, ◌+◌, ◌<◌, ◌↔◌, ◌∷◌, ◌≡◌, ◌≤◌};
 
@@ -123,7 +124,8 @@ impl NodeSet {
     pub fn worth(&self, mass: &[i128]) -> (i128, u32)
         requires some { 1 ≤ length self.now.members }
         requires weighed { AreWeighed self.now.members mass.now }
-        ensures { IsWorth self.now.members mass.now result.0 result.1 }
+        ensures worth { IsWorth self.now.members mass.now result.0 result.1 }
+        ensures bounded { (weighed : AreWeighed self.now.members mass.now) → IsWithinSpan weighed.game mass.now result.0 }
     {
         greatest(&self.nodes, self.narrow, mass)
     }

@@ -13,3 +13,4 @@ pub mod SeedPoints
 pub mod AlwaysSets
 pub mod ShareLists
 pub mod Evaluations
+pub mod OneSeeds

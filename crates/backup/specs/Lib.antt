@@ -2,3 +2,4 @@ pub mod Seeds
 pub mod Rounds
 pub mod Steps
 pub mod Shares
+pub mod Laws

@@ -2,9 +2,11 @@
 #![tactic(auto)]
 
 mod corners;
+mod laws;
 mod nodes;
 mod points;
 mod seeds;
 mod shares;
 
+pub use laws::law_seeds;
 pub use seeds::seed;

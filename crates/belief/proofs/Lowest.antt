@@ -127,7 +127,7 @@ lowered d xs qs low each divides greatest is = subst (Lowered xs) (sym is) (reco
 })
 
 -- the divisor of numbers that are not all zero
-sum-of_zeros : (xs : List ℤ) → AllByRecursion IsZero xs → sum_of xs ≡ pos 0
+pub sum-of_zeros : (xs : List ℤ) → AllByRecursion IsZero xs → sum_of xs ≡ pos 0
 sum-of_zeros [] h = refl
 sum-of_zeros (x ∷ xs) h = omega (arith, ints, h.0, sum-of_zeros xs h.1)
 

@@ -4,3 +4,5 @@ pub mod Masses
 pub mod Reduced
 pub mod Quotients
 pub mod Sure
+pub mod After
+pub mod Laws

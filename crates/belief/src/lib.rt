@@ -3,11 +3,13 @@
 
 mod beliefs;
 mod divisors;
+mod laws;
 mod masses;
 mod mixes;
 mod reduced;
 
 pub use beliefs::Belief;
+pub use laws::law_reduced;
 pub use masses::mass;
 pub use mixes::Mixes;
 pub use reduced::reduce;

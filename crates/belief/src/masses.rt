@@ -1,6 +1,7 @@
 //! The mass that a belief and mixes bring on.
 
 ghost use Rattle.game_model.specs.Limits.{most_belief};
+ghost use Rattle.belief.specs.After.{mass_after};
 ghost use Rattle.belief.specs.Beliefs.{mix_weight, weight_at};
 ghost use Rattle.belief.specs.Masses.{AreBelow, AreLandings, IsSeen, from_state, landed};
 ghost use Rattle.belief.specs.Mixes.{mass_of};
@@ -22,6 +23,7 @@ pub fn mass(game: &Game, belief: &Belief, mixes: &Mixes, a: u32, o: u32, out: &m
     requires seen { o < game.now.shape.observations }
     requires places { length out.old ≡ game.now.shape.states }
     ensures places { length out.new ≡ game.now.shape.states }
+    ensures list { out.new ≡ mass_after game.now belief.now mixes.now a o }
     ensures exact { (t : ℕ) → t < game.now.shape.states → slice_index_or out.new t (pos 0) ≡ pos (mass_of (numbers game.now) (weight_at belief.now) (mix_weight mixes.now) a o t) }
 {
     law_game(game);

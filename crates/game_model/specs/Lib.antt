@@ -10,3 +10,4 @@ pub mod Sets
 pub mod Build
 pub mod Bounds
 pub mod Mixed
+pub mod Spans

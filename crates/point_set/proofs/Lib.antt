@@ -18,9 +18,9 @@ pub mod Wanted
 pub mod Rests
 pub mod Splitting
 pub mod One
-pub mod OneShare
 pub mod OneSplit
 pub mod OneTakes
 pub mod BestExample
 pub mod FirstBest
 pub mod ToothSplits
+pub mod Spanned

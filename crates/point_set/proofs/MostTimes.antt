@@ -1,6 +1,6 @@
 -- The greatest whole number of times that a belief fits into a mass.
 use Rattle.std.proofs.Common.{◌≡◌, ℕ, suc, ◌+◌, ◌^◌, ◌<◌, ◌≤◌, List, [], ◌∷◌, length, refl, arith, sym, subst, below_more}
-use Rattle.std.specs.Prelude.{ℤ, pos, ◌+ℤ◌, ◌*ℤ◌, ◌≤ℤ◌, ◌<ℤ◌, unsigned_abs, FitsSigned}
+use Rattle.std.specs.Prelude.{ℤ, pos, ◌*ℤ◌, ◌≤ℤ◌, ◌<ℤ◌, unsigned_abs, FitsSigned}
 use Rattle.std.specs.Int.{w128}
 use Rattle.std.specs.List.{AllByRecursion}
 use Rattle.std.proofs.lemmas.Int.{ints, by_lt_z, fits_signed_from_abs, unsigned_abs-mul}
@@ -8,7 +8,8 @@ use Rattle.std.proofs.lemmas.Nat.{mul-le}
 use Rattle.scaled_num.specs.Share.{at, IsFloor}
 use Rattle.scaled_num.specs.Sums.{sum_of}
 use Rattle.scaled_num.proofs.Floors.{floor-none_negative, product_le}
-use Rattle.scaled_num.proofs.Products.{add-mulℤ, mulℤ_comm}
+use Rattle.scaled_num.proofs.OneShare.{floor-most}
+use Rattle.scaled_num.proofs.Products.{mulℤ_comm}
 use Rattle.scaled_num.proofs.Sums.{each-at}
 use Rattle.game_model.specs.Game.{IsBelief, IsWithin}
 use Rattle.point_set.specs.Sawtooth.{FitsTimes, IsMostTimes}
@@ -20,15 +21,6 @@ zeros-sum (x ∷ xs) h = omega (arith, ints, h 0 (omega arith), zeros-sum xs (λ
 
 pub some-weight : (belief : List ℤ) → IsBelief (length belief) belief → ((s : ℕ) → s < length belief → at belief s ≡ pos 0) → ⊥
 some-weight belief h zeros = let low = h.sums.0 in omega (arith, ints, zeros-sum belief zeros)
-
--- what does not pass a floor's product does not pass the floor
-pub floor-most : (q a b more : ℤ) → pos 1 ≤ℤ b → IsFloor q a b → (more *ℤ b) ≤ℤ a → more ≤ℤ q
-floor-most q a b more p f h = by_lt_z q more (λ less. absurd (too_much less)) (λ most. most)
-  where
-    too_much : q <ℤ more → ⊥
-    too_much less =
-        let next : (q +ℤ pos 1) ≤ℤ more = omega (arith, ints) in
-        omega (arith, ints, product_le (q +ℤ pos 1) more b (omega (arith, ints)) next, add-mulℤ q (pos 1) b, f.high)
 
 pub floor-small : (q a b : ℤ) → pos 1 ≤ℤ b → pos 0 ≤ℤ a → IsFloor q a b → q ≤ℤ a
 floor-small q a b p l f =

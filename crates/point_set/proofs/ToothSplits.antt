@@ -1,5 +1,5 @@
 -- The tooth split of a mass as a split by one wanted point, and what its items cost.
-use Rattle.std.proofs.Common.{◌≡◌, ℕ, zero, suc, ◌+◌, ◌<◌, ◌≤◌, ◌⊎◌, Bool, true, false, cond, not, List, [], ◌∷◌, Option, Some, None, inl, inr, length, map, refl, ap, ap₂, arith, sym, subst, ◌∙◌}
+use Rattle.std.proofs.Common.{◌≡◌, ℕ, ◌<◌, ◌≤◌, Bool, true, false, cond, not, List, [], ◌∷◌, Option, Some, None, inl, inr, length, map, ap, ap₂, arith, sym, subst, ◌∙◌}
 use Rattle.std.specs.Prelude.{ℤ, pos, ◌+ℤ◌, ◌-ℤ◌, ◌*ℤ◌, ◌≤ℤ◌, ◌<ℤ◌, ◌==◌}
 use Rattle.std.specs.List.{AllByRecursion}
 use Rattle.std.proofs.lemmas.Bool.Decides.{eqb_tells}
@@ -11,14 +11,14 @@ use Rattle.scaled_num.proofs.Products.{add-mulℤ, mulℤ_comm}
 use Rattle.scaled_num.proofs.Sums.{total-add, total-below, total-scale, total-single, total-swap}
 use Rattle.game_model.specs.Game.{IsBelief}
 use Rattle.belief.specs.Beliefs.{corner_of}
-use Rattle.point_set.specs.Best.{HasNoBest, IsBest, IsBestPoint}
+use Rattle.point_set.specs.Best.{IsBest}
 use Rattle.point_set.specs.Corners.{point_at}
 use Rattle.point_set.specs.Points.{PointData}
-use Rattle.point_set.specs.Sawtooth.{AreCorners, IsBound, IsMostTimes, IsSawtooth, base_cost, cost_with}
+use Rattle.point_set.specs.Sawtooth.{AreCorners, IsBound, IsSawtooth, base_cost, cost_with}
 use Rattle.point_set.specs.Split.{AreTakes, IsSplit, IsWanted, Take, TakesMost, is_corner, less_times, weight_of}
 use Rattle.point_set.specs.Tooth.{HaveToothWeights, IsTooth, IsToothSplit, at_corners, items_cost}
 use Rattle.point_set.proofs.One.{base-one, bound-one, bound-over}
-use Rattle.point_set.proofs.OneShare.{shared-sum}
+use Rattle.scaled_num.proofs.OneShare.{shared-sum}
 use Rattle.point_set.proofs.PointBounds.{times-total}
 use Rattle.point_set.proofs.Rests.{corner-at, corner-other, same-corners}
 use Rattle.point_set.proofs.Taking.{less-at, less-long}

@@ -10,6 +10,7 @@ ghost use Rattle.point_set.specs.Sawtooth.{AreCorners, AreMeasured, IsSawtooth};
 ghost use Rattle.point_set.specs.Split.{IsSplit, IsWanted, MakesUp};
 ghost use Rattle.point_set.specs.Tooth.{IsToothSplit, items_cost};
 ghost use Rattle.game_model.specs.Game.{numbers};
+ghost use Rattle.game_model.specs.Spans.{IsWithinSpan};
 ghost use Rattle.scaled_num.specs.Sums.{sum_of};
 ghost use Rattle.std.specs.List.{AllByRecursion};
 ghost use Rattle.std.specs.Prelude.{IfOk, IfSome, IsErrOf, IsNone, IsOk, OnErr, OnOk, [], length, slice_index_or, vec_capacity, vec_len, ℕ, ◌++◌, ◌+◌, ◌<◌, ◌↔◌, ◌∷◌, ◌≡◌, ◌≤ℤ◌, ◌≤◌};
@@ -158,7 +159,8 @@ impl PointSet {
     /// over its states, with a total of at most 2^36 times the row total. It takes no memory.
     pub fn sawtooth(&self, mass: &[i128]) -> i128
         requires { AreMeasured self.now.members mass.now }
-        ensures { IsSawtooth self.now.members mass.now result }
+        ensures sawtooth { IsSawtooth self.now.members mass.now result }
+        ensures bounded { (measured : AreMeasured self.now.members mass.now) → IsWithinSpan measured.game mass.now result }
     {
         least_bound(&self.points, &self.corners, &self.gaps, mass).value
     }

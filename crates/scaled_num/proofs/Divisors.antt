@@ -1,10 +1,10 @@
 -- Where a run of divisions may end, and the greatest common divisor of a list of numbers.
-use Rattle.std.proofs.Common.{◌≡◌, ℕ, ◌+◌, ◌%◌, ◌<◌, List, [], ◌∷◌, ◌++◌, length, get_or, take, arith, subst, sym}
+use Rattle.std.proofs.Common.{◌≡◌, ℕ, zero, suc, ◌+◌, ◌%◌, ◌<◌, List, [], ◌∷◌, ◌++◌, length, get_or, take, refl, arith, subst, sym}
 use Rattle.std.specs.Prelude.{ℤ, unsigned_abs}
 use Rattle.std.specs.List.{AllByRecursion}
 use Rattle.std.specs.Int.{IsGcd, ◌∣◌}
 use Rattle.std.proofs.lemmas.List.{take_more}
-use Rattle.std.proofs.lemmas.Nat.Gcd.{IsGcd-from_zero, IsGcd-from_mod, dvd_trans}
+use Rattle.std.proofs.lemmas.Nat.Gcd.{IsGcd-from_zero, IsGcd-from_mod, dvd-zero, dvd_trans}
 use Rattle.scaled_num.proofs.Sums.{each-append}
 use Rattle.scaled_num.proofs.Each.{each-front, each-back}
 
@@ -36,4 +36,28 @@ next-divisor numbers i x divisor g l so_far h =
       greatest = λ d all.
           let parts : AllByRecursion (Divides d) (front ++ here ∷ []) = subst (λ (xs : List ℤ). AllByRecursion (Divides d) xs) more all in
           h.2 d (so_far.greatest d (each-front (Divides d) front (here ∷ []) parts)) (each-back (Divides d) front (here ∷ []) parts).0;
+    }
+
+-- ---- numbers have a greatest common divisor
+gcd-of : (fuel a b : ℕ) → b < fuel → (g : ℕ) × IsGcd a b g
+gcd-of zero a b l = absurd (omega arith)
+gcd-of (suc fuel) a zero l = (a, IsGcd-from_zero a zero refl)
+gcd-of (suc fuel) a (suc b) l =
+    let next = gcd-of fuel (suc b) (a % suc b) (omega arith) in
+    (next.0, IsGcd-from_mod a (suc b) next.0 next.1)
+
+pub record HasDivisor (numbers : List ℤ) : Type 0 where
+  pub divisor : ℕ
+  pub divides : AllByRecursion (Divides divisor) numbers
+  pub greatest : (d : ℕ) → AllByRecursion (Divides d) numbers → d ∣ divisor
+
+pub divisor-of : (numbers : List ℤ) → HasDivisor numbers
+divisor-of [] = record { divisor = 0; divides = tt; greatest = λ d all. dvd-zero d }
+divisor-of (x ∷ xs) =
+    let rest = divisor-of xs in
+    let g = gcd-of (suc rest.divisor) (unsigned_abs x) rest.divisor (omega arith) in
+    record {
+      divisor = g.0;
+      divides = (g.1.0, divides-less g.0 rest.divisor xs g.1.1 rest.divides);
+      greatest = λ d all. g.1.2 d all.0 (rest.greatest d all.1);
     }

@@ -7,3 +7,5 @@ pub mod Places
 pub mod Divisors
 pub mod Floors
 pub mod Same
+pub mod OneShare
+pub mod Weighted

@@ -1,3 +1,4 @@
 pub mod Sums
 pub mod Printed
 pub mod Share
+pub mod Laws

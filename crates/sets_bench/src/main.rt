@@ -30,7 +30,7 @@ fn measure_sets(rt: HostRuntime, game: &Game, seed: &mut u64) -> io::Result<()> 
         if !are_masses(game, &masses) {
             return println!(rt; "the masses are too great");
         }
-        for call in [Call::Worth, Call::Sawtooth, Call::SplitInto] {
+        for call in [Call::Worth, Call::Sawtooth, Call::SplitInto, Call::Fits] {
             measure(
                 rt,
                 Round { call, held },

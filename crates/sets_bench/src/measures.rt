@@ -28,6 +28,8 @@ pub enum Call {
     Sawtooth,
     /// The split of a mass.
     SplitInto,
+    /// Whether the certificate of the sets fits.
+    Fits,
 }
 
 /// A call, and how many states have some of each mass that it is given.
@@ -75,6 +77,7 @@ fn named(call: Call) -> (&'static str, &'static str, u32) {
         Call::Worth => ("worth", "node", MOST_NODES as u32),
         Call::Sawtooth => ("sawtooth", "point", MOST_POINTS as u32),
         Call::SplitInto => ("split_into", "wanted point", 8),
+        Call::Fits => ("fits", "member", (MOST_NODES + MOST_POINTS) as u32),
     }
 }
 
@@ -94,7 +97,17 @@ fn answers_of(
         Call::Worth => worths(game, &certificate.nodes, masses),
         Call::Sawtooth => bounds(game, &certificate.points, masses),
         Call::SplitInto => items(game, &certificate.points, wanted, masses),
+        Call::Fits => fitting(game, certificate, masses),
     }
+}
+
+/// How often the certificate fits, asked once for each mass.
+fn fitting(game: &Game, certificate: &Certificate, masses: &[[i128; MOST_STATES]]) -> i128 {
+    let mut count: i128 = 0;
+    for _mass in masses {
+        count = count.wrapping_add(i128::from(certificate.fits(game)));
+    }
+    count
 }
 
 /// What the nodes are worth at each mass, added up.

@@ -1,8 +1,8 @@
 //! Tests of what fits: a vector above the span and a share of no point do not.
 
-use controller::{Certificate, Outcome};
 use alpha_set::{Node, NodeSet, Step};
 use belief::{Belief, Mixes};
+use controller::{Certificate, Outcome};
 use game_model::{Game, GameBuilder, GameFault, Shape};
 use point_set::{Point, PointSet, Share};
 use scaled_num::Fraction;

@@ -1,8 +1,8 @@
 //! Tests of the checker: certificates that stand, and the first place of others.
 
-use cert_check::{Reason, Verdict, check};
 use alpha_set::{Node, NodeSet, Step};
 use belief::{Belief, Mixes};
+use cert_check::{Reason, Verdict, check};
 use controller::{Certificate, Outcome};
 use game_model::{Game, GameBuilder, GameFault, Shape};
 use point_set::{Point, PointSet, Share};

@@ -8,9 +8,9 @@ ghost use Rattle.std.specs.List.{AllByRecursion};
 ghost use Rattle.scaled_num.specs.Sums.{sum_of};
 ghost use Rattle.std.specs.Prelude.{IfOk, [], neg_ℤ, pos, ℕ, ◌*ℤ◌, ◌+◌, ◌<◌, ◌^◌, ◌∷◌, ◌≡◌, ◌≤◌};
 
-use point_set::{Point, PointFault, PointSet, PushFault, Share, Split};
 use belief::{Belief, Mixes};
 use game_model::{Game, GameBuilder, GameFault, Shape, law_game};
+use point_set::{Point, PointFault, PointSet, PushFault, Share, Split};
 use std::alloc::{AllocError, Global};
 
 /// Matching pennies in one state, without a future.
@@ -169,7 +169,12 @@ fn plain_point(alloc: Global, game: &Game, belief: Belief, value: i128) -> Resul
 }
 
 /// The points at both corners of that game, each of value 65,536, and a third one.
-fn three_points(alloc: Global, game: &Game, belief: Belief, value: i128) -> Result<PointSet, AllocError>
+fn three_points(
+    alloc: Global,
+    game: &Game,
+    belief: Belief,
+    value: i128,
+) -> Result<PointSet, AllocError>
     requires states { game.now.shape.states ≡ 2 }
     requires informed { game.now.shape.informed_actions ≡ 1 }
     requires span { span game.now ≡ 65536 }

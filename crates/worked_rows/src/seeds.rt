@@ -1,5 +1,5 @@
-use backup::seed;
 use alpha_set::NodeSet;
+use backup::seed;
 use game_model::{Game, GameBuilder, GameFault, Shape};
 use point_set::{PointSet, Share};
 use std::alloc::Global;

@@ -1,8 +1,8 @@
 //! Tests of words, numbers and limits.
+use std::test::Fail;
 use text_words::{
     NumbersFault, below_limit, each_within, limited, number, numbers_after, split_line, words,
 };
-use std::test::Fail;
 
 #[test]
 fn a_line_is_cut_into_words_and_numbers(rt: HostRuntime) -> Result<(), Fail> {

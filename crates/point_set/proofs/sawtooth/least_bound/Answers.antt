@@ -9,7 +9,6 @@ use Rattle.point_set.specs.Sawtooth.{base_cost, cost_with}
 use Rattle.point_set.specs.Corners.{point_at}
 use Rattle.point_set.specs.Members.{data_of, point_data}
 use Rattle.point_set.specs.Points.{PointData}
-use Rattle.point_set.specs.declared.points.Point.{Point as PointParts}
 use Rattle.point_set.proofs.GapBounds.{gap-above}
 use Rattle.point_set.proofs.FirstBest.{LeadSoFar, all-led, new-leader, same-leader}
 use Rattle.point_set.proofs.LeastBounds.{LeastSoFar, all-least, first-least, measured}

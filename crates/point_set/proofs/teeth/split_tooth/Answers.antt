@@ -1,11 +1,8 @@
-use Rattle.std.proofs.Common.{arith, ◌≡◌, ◌<◌, ◌≤◌, ◌∙◌, List, Option, Some, None, ℕ, length, get_or, subst, sym, refl}
+use Rattle.std.proofs.Common.{◌≡◌, ◌<◌, List, Option, Some, None, ℕ, length, get_or, subst, sym}
 use Rattle.std.specs.List.{AllByRecursion}
 use Rattle.std.specs.Option.{unwrap_or}
 use Rattle.std.specs.Prelude.{ℤ}
-use Rattle.game_model.specs.Game.{IsBelief}
 use Rattle.game_model.proofs.Front.{length-map}
-use Rattle.point_set.specs.Best.{IsBest}
-use Rattle.point_set.specs.Corners.{point_at}
 use Rattle.point_set.specs.Members.{data_of, point_data}
 use Rattle.point_set.specs.Points.{PointData}
 use Rattle.point_set.proofs.Items.{belief-at}

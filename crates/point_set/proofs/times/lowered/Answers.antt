@@ -3,7 +3,8 @@ use Rattle.std.specs.Int.{w128}
 use Rattle.std.proofs.lemmas.Int.{ints, to_z-of_z}
 use Rattle.scaled_num.specs.Share.{IsFloor}
 use Rattle.game_model.specs.Game.{IsWithin}
-use Rattle.point_set.proofs.MostTimes.{floor-below, floor-most, times-fit}
+use Rattle.scaled_num.proofs.OneShare.{floor-most}
+use Rattle.point_set.proofs.MostTimes.{floor-below, times-fit}
 use Rattle.point_set.proofs.times.lowered.Goals as goal
 
 pub returns-else-times-weight-clause-high : goal.returns-else-times-weight-clause-high
