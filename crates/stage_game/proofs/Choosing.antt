@@ -25,7 +25,7 @@ different-more (x ∷ xs) k =
     last false (inl h) = rw (eq-turned x k) (rw h.0 refl)
     last false (inr h) = rw (eq-turned x k) (rw h.0 refl)
 
-among-filtered : (k x : ℕ) (ys : List ℕ) → (k ≡ x → ⊥) → is_among k (filter (λ y. not (y == x)) ys) ≡ is_among k ys
+pub among-filtered : (k x : ℕ) (ys : List ℕ) → (k ≡ x → ⊥) → is_among k (filter (λ y. not (y == x)) ys) ≡ is_among k ys
 among-filtered k x [] n = refl
 among-filtered k x (y ∷ ys) n = elim (eqb_tells y x) [
   | inl e ↦ rw e.0 (among-filtered k x ys n ∙ other (eqb_tells y k) e.1)

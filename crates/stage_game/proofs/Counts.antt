@@ -66,6 +66,12 @@ length-lower_rows g f h =
     let goes : length (over_pairs g (λ a o. h a o ∷ [])) ≡ g.shape.own_actions * g.shape.observations * 1 = length-over_pairs g (λ a o. h a o ∷ []) 1 (λ a o. refl) in
     length-append (worth_rows g f) (over_pairs g (λ a o. h a o ∷ [])) ∙ omega (arith, length-worth_rows g f, goes)
 
+pub length-upper_rows : (g : GameData) (f : ℕ → ℕ → Variable → ℤ) (h : ℕ → ℕ → ℕ → Variable → ℤ) (ends : List ℕ) →
+    length (worth_rows g f ++ over_pairs g (λ a o. map (λ k. h k a o) ends)) ≡ g.shape.states * g.shape.informed_actions + g.shape.own_actions * g.shape.observations * length ends
+length-upper_rows g f h ends =
+    let points : length (over_pairs g (λ a o. map (λ k. h k a o) ends)) ≡ g.shape.own_actions * g.shape.observations * length ends = length-over_pairs g (λ a o. map (λ k. h k a o) ends) (length ends) (λ a o. length-mapped (λ k. h k a o) ends) in
+    length-append (worth_rows g f) (over_pairs g (λ a o. map (λ k. h k a o) ends)) ∙ omega (arith, length-worth_rows g f, points)
+
 -- the goal is narrow
 pub goal-narrow : (g : GameData) (belief : List ℤ) (bits count : ℕ) (ends : List ℕ) → AllByRecursion (λ k. k < count) ends → AreBits bits → IsBelief g.shape.states belief → AreNarrowOver (variables g ends) (goal_at belief bits)
 goal-narrow g belief bits count ends inside b right = narrow-over g (goal_at belief bits) count ends inside worths (λ a l. omega arith) (λ a o k l m n. omega arith)

@@ -84,13 +84,13 @@ brings-is g h bits b nodes fit s a c o k ls la lc lk =
     brings-quotient g h bits (bits-few bits b) _ r.low r.high
 
 -- minus a small quotient is narrow
-minus-narrow : (q : ℤ) (k : ℕ) → k ≤ most_scale → IsSmall k q → IsNarrow (neg_ℤ q)
+pub minus-narrow : (q : ℤ) (k : ℕ) → k ≤ most_scale → IsSmall k q → IsNarrow (neg_ℤ q)
 minus-narrow q k few small = let low = small.low in let high = small.high in omega (arith, ints)
 
 pub quotient-narrow : (k : ℕ) (a b : ℤ) → k ≤ most_scale → IsQuotient k a b → IsNarrow (neg_ℤ (floor_of a b))
 quotient-narrow k a b few q = minus-narrow (floor_of a b) k few (floor-small a b k q.divisor q.low q.high)
 
-one-narrow : (b : Bool) (x y : ℤ) → IsNarrow x → IsNarrow y → IsNarrow (cond b x y)
+pub one-narrow : (b : Bool) (x y : ℤ) → IsNarrow x → IsNarrow y → IsNarrow (cond b x y)
 one-narrow true x y p q = p
 one-narrow false x y p q = q
 

@@ -3,7 +3,7 @@ use Rattle.std.proofs.Common.{◌≡◌, ℕ, ◌<◌, ◌≤◌, ◌+◌, ◌*�
 use Rattle.std.specs.Prelude.{ℤ, pos, filter, flat_map, slice_index, ◌*ℤ◌}
 use Rattle.std.proofs.lemmas.List.{ext_get_or}
 use Rattle.std.proofs.Math.Nat.{mul-le-mul_right}
-use Rattle.point_set.proofs.OneShare.{floor-one, shared-one}
+use Rattle.scaled_num.proofs.OneShare.{floor-one, shared-one}
 use Rattle.scaled_num.specs.Share.{IsFloor, IsShared, at}
 use Rattle.scaled_num.specs.Sums.{below}
 use Rattle.alpha_set.specs.Nodes.{NodeData}

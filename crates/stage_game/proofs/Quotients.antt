@@ -5,7 +5,7 @@ use Rattle.std.proofs.lemmas.Int.{ints, by_lt_z}
 use Rattle.scaled_num.specs.Share.{IsFloor}
 use Rattle.scaled_num.proofs.Floors.{cancel, floor-none_negative, product_le}
 use Rattle.scaled_num.proofs.Products.{mul-addℤ, mulℤ_comm}
-use Rattle.point_set.proofs.OneShare.{floor-one}
+use Rattle.scaled_num.proofs.OneShare.{floor-one}
 use Rattle.stage_game.specs.Scaling.{ceil_of, floor_of}
 
 -- the quotient that is written is the floor

@@ -64,6 +64,9 @@ pub record IsQuotient (k : ℕ) (a b : ℤ) : Type 0 where
   pub small : unsigned_abs a ≤ 2 ^ 110
   pub divisor_small : unsigned_abs b ≤ 2 ^ 100
 
+pub roomy : {k : ℕ} {a b : ℤ} → IsQuotient k a b → a ≤ℤ pos (2 ^ 126)
+roomy q = let small = q.small in omega (arith, ints)
+
 quotient-of : (k n m : ℕ) → 1 ≤ m → n ≤ k * m → n ≤ 2 ^ 110 → m ≤ 2 ^ 100 → IsQuotient k (pos n) (pos m)
 quotient-of k n m some most small divisor_small = record {
   divisor = omega (arith, ints);

@@ -1,11 +1,11 @@
 //! What the landings of a row with one observation bring.
 
-ghost use Rattle.belief.specs.Masses.{AreLandings, IsSeen};
+ghost use Rattle.belief.specs.Masses.{AreLandings, IsSeen, landed};
 ghost use Rattle.game_model.specs.Game.{IsRising};
 ghost use Rattle.scaled_num.specs.Share.{at};
 ghost use Rattle.scaled_num.specs.Sums.{total};
 ghost use Rattle.std.specs.List.{AllByRecursion};
-ghost use Rattle.std.specs.Prelude.{filter, length, unsigned_abs, ◌*ℤ◌, ◌+ℤ◌, ◌^◌, ◌≡◌, ◌≤◌};
+ghost use Rattle.std.specs.Prelude.{filter, length, pos, unsigned_abs, ◌*ℤ◌, ◌+ℤ◌, ◌^◌, ◌≡◌, ◌≤◌};
 
 use game_model::Landing;
 
@@ -30,6 +30,20 @@ pub fn raised_sum(landings: &[Landing], vector: &[i128], raise: i128) -> i128
     let mut sum: i128 = 0;
     for landing in landings {
         sum += landing.weight * (vector[landing.to as usize] + raise);
+    }
+    sum
+}
+
+/// The weight of the landings in a next state.
+pub fn weight_to(landings: &[Landing], t: u32) -> i128
+    requires { AreLandings 16 landings.now }
+    ensures { result ≡ pos (landed landings.now t) }
+{
+    let mut sum = 0;
+    for landing in landings {
+        if landing.to == t {
+            sum += landing.weight;
+        }
     }
     sum
 }

@@ -1,0 +1,41 @@
+use Rattle.std.proofs.Common.{◌≡◌, ◌∙◌, ◌++◌, ◌∷◌, [], ℕ, ◌^◌, List, ap, rules, arith, subst, sym}
+use Rattle.std.specs.Prelude.{ℤ, pos, neg_ℤ, FitsSigned, ◌<ℤ◌, ◌≤ℤ◌}
+use Rattle.std.specs.Int.{w128}
+use Rattle.std.proofs.lemmas.Int.{ints, to_z-of_z}
+use Rattle.game_model.specs.Game.{GameData}
+use Rattle.stage_game.specs.Scaling.{ceil_of, paid_above, pay_width}
+use Rattle.stage_game.proofs.Appends.{number-more}
+use Rattle.stage_game.proofs.LowerNumbers.{bits-few}
+use Rattle.stage_game.proofs.Sizes.{paid-quotient, roomy}
+use Rattle.stage_game.proofs.upper.push_pays.Goals as goal
+
+pub minus_up-requires-clause-divisor : goal.minus_up-requires-clause-divisor
+minus_up-requires-clause-divisor c =
+    let w_fits : FitsSigned w128 c.paid_over-whole.result = search rules in
+    let q = paid-quotient c.args.game.now c.law_game.ensures.accepted c.args.bits c.args.s c.loop-a.a c.args.c (bits-few c.args.bits c.requires.bits) c.requires.state (search (rules, arith)) c.requires.informed in
+    simp to_z-of_z (subst (λ (z : ℤ). pos 0 <ℤ z) (sym c.paid_over-whole.ensures) q.divisor)
+
+pub minus_up-requires-clause-part : goal.minus_up-requires-clause-part
+minus_up-requires-clause-part c =
+    let p_fits : FitsSigned w128 c.paid.result = search rules in
+    let q = paid-quotient c.args.game.now c.law_game.ensures.accepted c.args.bits c.args.s c.loop-a.a c.args.c (bits-few c.args.bits c.requires.bits) c.requires.state (search (rules, arith)) c.requires.informed in
+    simp to_z-of_z (subst (λ (z : ℤ). pos 0 ≤ℤ z) (sym c.paid.ensures) q.low)
+
+pub minus_up-requires-clause-room : goal.minus_up-requires-clause-room
+minus_up-requires-clause-room c =
+    let p_fits : FitsSigned w128 c.paid.result = search rules in
+    let q = paid-quotient c.args.game.now c.law_game.ensures.accepted c.args.bits c.args.s c.loop-a.a c.args.c (bits-few c.args.bits c.requires.bits) c.requires.state (search (rules, arith)) c.requires.informed in
+    simp to_z-of_z (subst (λ (z : ℤ). z ≤ℤ pos (2 ^ 126)) (sym c.paid.ensures) (roomy q))
+
+pub loop-a-preserved : goal.loop-a-preserved
+loop-a-preserved c =
+    let g : GameData = c.args.game.now in
+    let w_fits : FitsSigned w128 c.paid_over-whole.result = search rules in
+    let p_fits : FitsSigned w128 c.paid.result = search rules in
+    let m_fits : FitsSigned w128 c.minus_up.result = search rules in
+    let pushed : c.push.new.self.items ≡ c.loop-a.row.items ++ c.minus_up.result ∷ [] = simp to_z-of_z at c.in_ok-push.ensures.items in
+    let found : c.minus_up.result ≡ neg_ℤ (ceil_of c.paid.result c.paid_over-whole.result) = simp to_z-of_z at c.minus_up.ensures in
+    pushed
+    ∙ ap (λ (x : ℤ). c.loop-a.row.items ++ x ∷ []) (found ∙ ap (λ (x : ℤ). neg_ℤ (ceil_of x c.paid_over-whole.result)) c.paid.ensures ∙ ap (λ (x : ℤ). neg_ℤ (ceil_of (paid_above g c.args.bits c.args.s c.loop-a.a c.args.c) x)) c.paid_over-whole.ensures)
+    ∙ ap (λ (xs : List ℤ). xs ++ neg_ℤ (ceil_of (paid_above g c.args.bits c.args.s c.loop-a.a c.args.c) (pay_width g)) ∷ []) c.loop-a.invariant
+    ∙ number-more (λ a. neg_ℤ (ceil_of (paid_above g c.args.bits c.args.s a c.args.c) (pay_width g))) c.args.row.now.items c.loop-a.a
