@@ -10,7 +10,7 @@ use Rattle.game_model.specs.Game.{IsBelief, IsWithin}
 use Rattle.stage_game.specs.Scaling.{most_scale, scale}
 use Rattle.stage_game.proofs.Sizes.{IsQuotient, share-quotient}
 
-low-each : (xs : List ℤ) → AllByRecursion (IsWithin (pos 0) (pos (2 ^ 20))) xs → AllByRecursion (λ x. pos 0 ≤ℤ x) xs
+pub low-each : (xs : List ℤ) → AllByRecursion (IsWithin (pos 0) (pos (2 ^ 20))) xs → AllByRecursion (λ x. pos 0 ≤ℤ x) xs
 low-each [] h = tt
 low-each (x ∷ xs) h = (h.0.0, low-each xs h.1)
 

@@ -1,9 +1,13 @@
 -- Numbers chosen one by one out of a list of preference.
-use Rattle.std.proofs.Common.{◌≡◌, ℕ, zero, suc, ◌+◌, ◌<◌, ◌≤◌, ◌⊎◌, inl, inr, Bool, true, false, cond, not, ◌==◌, ◌||◌, List, [], ◌∷◌, ◌++◌, filter, length, take, refl, ap, arith, sym, subst, ◌∙◌}
-use Rattle.std.proofs.lemmas.List.{take_all, length-append, take-append-le, length-take}
+use Rattle.std.proofs.Common.{◌≡◌, ℕ, zero, suc, ◌+◌, ◌-◌, ◌<◌, ◌≤◌, ◌⊎◌, inl, inr, Bool, true, false, cond, not, ◌==◌, ◌||◌, List, [], ◌∷◌, ◌++◌, filter, get_or, length, take, refl, ap, arith, sym, subst, ◌∙◌}
+use Rattle.std.specs.List.{list_any}
+use Rattle.std.proofs.lemmas.List.{take_all, take_more, length-append, take-append-le, length-take, get_or-reverse, length-reverse}
+use Rattle.std.proofs.lemmas.List.FromFn.{get_or-range_with_len, length-range_with_len}
+use Rattle.scaled_num.specs.Sums.{below}
 use Rattle.std.proofs.lemmas.List.Elements.{filter-append}
 use Rattle.std.proofs.lemmas.Bool.Decides.{eqb_tells}
-use Rattle.stage_game.specs.Chosen.{different, is_among}
+use Rattle.stage_game.specs.Chosen.{different, downwards, is_among}
+use Rattle.stage_game.proofs.Appends.{below-more}
 
 eq-turned : (x k : ℕ) → (x == k) ≡ (k == x)
 eq-turned x k = elim (eqb_tells x k) [
@@ -93,3 +97,46 @@ choice-new m seen kept k e l h =
   where
     short : length kept ≡ length (take m (different seen)) → length (different seen) < m
     short e = omega (arith, length-take m (different seen))
+
+-- a slice's own test says whether a number is among its numbers
+pub among-any : (k : ℕ) (xs : List ℕ) → list_any (λ y. y == k) xs ≡ is_among k xs
+among-any k [] = refl
+among-any k (x ∷ xs) = ap (λ (b : Bool). (x == k) || b) (among-any k xs)
+
+-- one number more from the last one downwards
+pub length-downwards : (n : ℕ) → length (downwards n) ≡ n
+length-downwards n = length-reverse (below n) ∙ length-range_with_len 0 n
+
+pub downwards-more : (n i : ℕ) → i < n → take i (downwards n) ++ (n - 1 - i) ∷ [] ≡ take (i + 1) (downwards n)
+downwards-more n i l =
+    let inside : i < length (below n) = rw (length-range_with_len 0 n) l in
+    let there : get_or (downwards n) i 0 ≡ n - 1 - i =
+    get_or-reverse (below n) i 0 inside
+    ∙ ap (λ (k : ℕ). get_or (below n) (k - 1 - i) 0) (length-range_with_len 0 n)
+    ∙ get_or-range_with_len 0 n (n - 1 - i) 0 (omega arith) ∙ omega arith in
+    sym (take_more (downwards n) i 0 (rw (length-downwards n) l) ∙ ap (λ (k : ℕ). take i (downwards n) ++ k ∷ []) there)
+
+-- one number more that is preferred, in place of a fact about what is chosen
+pub chosen-full : (m : ℕ) (kept : List ℕ) (k : ℕ) → m ≤ length kept → (seen : List ℕ) → kept ≡ take m (different seen) → kept ≡ take m (different (seen ++ k ∷ []))
+chosen-full m kept k l seen e = (choice-full m seen kept k l (record { is = e })).is
+
+pub chosen-there : (m : ℕ) (kept : List ℕ) (k : ℕ) → is_among k kept ≡ true → length kept < m → (seen : List ℕ) → kept ≡ take m (different seen) → kept ≡ take m (different (seen ++ k ∷ []))
+chosen-there m kept k a l seen e = (choice-there m seen kept k a l (record { is = e })).is
+
+pub chosen-new : (m : ℕ) (kept : List ℕ) (k : ℕ) → is_among k kept ≡ false → length kept < m → (seen : List ℕ) → kept ≡ take m (different seen) → kept ++ k ∷ [] ≡ take m (different (seen ++ k ∷ []))
+chosen-new m kept k a l seen e = (choice-new m seen kept k a l (record { is = e })).is
+
+nil-behind : (xs : List ℕ) → xs ++ [] ≡ xs
+nil-behind [] = refl
+nil-behind (x ∷ xs) = ap (λ (ys : List ℕ). x ∷ ys) (nil-behind xs)
+
+-- one number more below a count: it is there where it is among the numbers
+pub risen-there : (numbers : List ℕ) (n : ℕ) → is_among n numbers ≡ true → filter (λ k. is_among k numbers) (below n) ++ n ∷ [] ≡ filter (λ k. is_among k numbers) (below (n + 1))
+risen-there numbers n e =
+    sym (ap (λ (xs : List ℕ). filter (λ k. is_among k numbers) xs) (below-more n) ∙ filter-append (λ k. is_among k numbers) (below n) (n ∷ [])
+    ∙ ap (λ (b : Bool). filter (λ k. is_among k numbers) (below n) ++ cond b (n ∷ []) []) e)
+
+pub risen-other : (numbers : List ℕ) (n : ℕ) → is_among n numbers ≡ false → filter (λ k. is_among k numbers) (below n) ≡ filter (λ k. is_among k numbers) (below (n + 1))
+risen-other numbers n e =
+    sym (ap (λ (xs : List ℕ). filter (λ k. is_among k numbers) xs) (below-more n) ∙ filter-append (λ k. is_among k numbers) (below n) (n ∷ [])
+    ∙ ap (λ (b : Bool). filter (λ k. is_among k numbers) (below n) ++ cond b (n ∷ []) []) e ∙ nil-behind (filter (λ k. is_among k numbers) (below n)))
