@@ -1,5 +1,5 @@
 -- The numbers of the lower stage program: what the code divides, and that all are narrow.
-use Rattle.std.proofs.Common.{◌≡◌, ℕ, suc, ◌+◌, ◌*◌, ◌^◌, ◌<◌, ◌≤◌, ◌⊎◌, inl, inr, Bool, true, false, cond, ◌==◌, List, [], ◌∷◌, ◌++◌, filter, flat_map, get_or, length, map, refl, ap, arith, sym, subst, ◌∙◌}
+use Rattle.std.proofs.Common.{◌≡◌, ℕ, ◌*◌, ◌^◌, ◌<◌, ◌≤◌, inl, inr, Bool, true, false, cond, ◌==◌, List, [], ◌∷◌, ◌++◌, filter, get_or, length, map, ap, arith, sym, subst, ◌∙◌}
 use Rattle.std.specs.Prelude.{ℤ, pos, neg_ℤ, ◌+ℤ◌, ◌*ℤ◌, ◌≤ℤ◌, sum_by, unsigned_abs}
 use Rattle.std.specs.List.{AllByRecursion}
 use Rattle.std.proofs.lemmas.Int.{ints}
@@ -17,7 +17,7 @@ use Rattle.belief.specs.Masses.{AreLandings, IsSeen}
 use Rattle.belief.proofs.Landings.{landings-seen, row-landings, sum-filter}
 use Rattle.simplex.specs.Program.{IsNarrow}
 use Rattle.stage_game.specs.Asked.{AreBits}
-use Rattle.stage_game.specs.LowerProgram.{going_on_row, lower_worth_row, node_brings}
+use Rattle.stage_game.specs.LowerProgram.{going_on_row, lower_worth_row}
 use Rattle.stage_game.specs.Masses.{over_pairs}
 use Rattle.stage_game.specs.Pairs.{pairs}
 use Rattle.stage_game.specs.Scaling.{floor_of, most_scale, paid_above, pay_width, scale, width, worth_rows}

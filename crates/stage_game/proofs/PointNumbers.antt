@@ -1,18 +1,18 @@
 -- What the code forms on the way to the numbers of a point.
-use Rattle.std.proofs.Common.{◌≡◌, ℕ, ◌+◌, ◌*◌, ◌^◌, ◌<◌, ◌≤◌, List, length, refl, ap, arith, sym, subst, ◌∙◌}
+use Rattle.std.proofs.Common.{◌≡◌, ℕ, ◌*◌, ◌^◌, ◌<◌, ◌≤◌, List, ap, arith, sym, subst, ◌∙◌}
 use Rattle.std.specs.Prelude.{ℤ, pos, neg_ℤ, ◌+ℤ◌, ◌*ℤ◌, ◌≤ℤ◌, ◌<ℤ◌, unsigned_abs, FitsSigned}
 use Rattle.std.specs.Int.{w128}
 use Rattle.std.proofs.lemmas.Int.{ints, fits_signed_from_abs}
 use Rattle.std.proofs.lemmas.Nat.{mul-le}
 use Rattle.scaled_num.specs.Share.{at}
-use Rattle.scaled_num.specs.Sums.{below, sum_of}
+use Rattle.scaled_num.specs.Sums.{sum_of}
 use Rattle.scaled_num.proofs.Products.{abs-add, magnitude-is}
 use Rattle.game_model.specs.Game.{GameData, IsBelief, IsGame, span}
 use Rattle.point_set.specs.Members.{most_points}
 use Rattle.point_set.specs.Points.{PointData, PointFits}
 use Rattle.stage_game.specs.Asked.{AreBits}
 use Rattle.stage_game.specs.PointParts.{Part}
-use Rattle.stage_game.specs.Scaling.{ceil_of, floor_of, scale, width}
+use Rattle.stage_game.specs.Scaling.{ceil_of, scale, width}
 use Rattle.stage_game.proofs.BeliefShares.{belief-quotient, part-of}
 use Rattle.stage_game.proofs.LowerNumbers.{bits-few}
 use Rattle.stage_game.proofs.Sizes.{limits, number-fits, product-is, roomy, wideness}

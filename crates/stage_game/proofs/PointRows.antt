@@ -1,6 +1,6 @@
 -- The rows of points, made of their parts.
-use Rattle.std.proofs.Common.{◌≡◌, ℕ, suc, ◌+◌, ◌<◌, ◌≤◌, Bool, cond, ◌==◌, ◌&&◌, List, [], ◌∷◌, ◌++◌, get_or, length, map, flat_map, take, refl, ap, arith, sym, subst, ◌∙◌}
-use Rattle.std.specs.Prelude.{ℤ, pos, neg_ℤ, ◌+ℤ◌, ◌*ℤ◌}
+use Rattle.std.proofs.Common.{◌≡◌, ℕ, suc, ◌+◌, ◌<◌, Bool, cond, ◌==◌, ◌&&◌, List, [], ◌∷◌, get_or, length, map, refl, ap, arith, sym, subst, ◌∙◌}
+use Rattle.std.specs.Prelude.{ℤ, pos, ◌*ℤ◌}
 use Rattle.std.specs.List.{AllByRecursion, range_with_len}
 use Rattle.std.proofs.lemmas.List.FromFn.{get_or-map-range_with_len, length-map-range_with_len}
 use Rattle.scaled_num.specs.Share.{at}
@@ -17,7 +17,7 @@ use Rattle.stage_game.specs.declared.upper.PointPart.{PointPart}
 use Rattle.stage_game.specs.Scaling.{floor_of, scale}
 use Rattle.stage_game.specs.UpperProgram.{point_row}
 use Rattle.stage_game.specs.Variables.{GoesOn, Plays, Variable, WorthOf, variables}
-use Rattle.stage_game.proofs.Appends.{IsInside, map-both, map-same, over-pairs, pairs-inside}
+use Rattle.stage_game.proofs.Appends.{map-both, map-same, over-pairs}
 use Rattle.stage_game.proofs.GoingOn.{both-same, not-both, other-number, same-number}
 
 -- a list, entry by entry

@@ -1,12 +1,11 @@
 -- The masses that follow a belief under mixes are masses of the game.
-use Rattle.std.proofs.Common.{◌≡◌, ℕ, ◌+◌, ◌*◌, ◌^◌, ◌<◌, ◌≤◌, List, [], get_or, length, map, refl, ap, arith, sym, subst, ◌∙◌}
-use Rattle.std.specs.Prelude.{ℤ, pos, ◌*ℤ◌, ◌≤ℤ◌, sum_by}
-use Rattle.std.specs.List.{AllByRecursion}
+use Rattle.std.proofs.Common.{◌≡◌, ℕ, ◌*◌, ◌^◌, ◌<◌, ◌≤◌, List, [], ap, arith, sym, subst, ◌∙◌}
+use Rattle.std.specs.Prelude.{ℤ, pos, ◌≤ℤ◌, sum_by}
 use Rattle.std.proofs.Math.Nat.{mul-le-mul_left}
 use Rattle.std.proofs.lemmas.Int.{ints}
 use Rattle.std.proofs.lemmas.List.FromFn.{get_or-range_with_len, length-map-range_with_len, length-range_with_len}
 use Rattle.std.proofs.lemmas.List.Sums.{get_or-le-sum_by}
-use Rattle.scaled_num.specs.Sums.{below, sum_of, total}
+use Rattle.scaled_num.specs.Sums.{below, sum_of}
 use Rattle.scaled_num.proofs.Sums.{below-each, each-map, total-map, total-pos}
 use Rattle.game_model.specs.Game.{GameData, IsBelief, IsGame, IsMass, numbers}
 use Rattle.game_model.proofs.Games.{keeps-span}

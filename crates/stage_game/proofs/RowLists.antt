@@ -1,5 +1,5 @@
 -- The lists of rows of both programs, as they are made.
-use Rattle.std.proofs.Common.{◌≡◌, ℕ, suc, ◌+◌, ◌<◌, ◌≤◌, List, [], ◌∷◌, ◌++◌, length, map, flat_map, take, replicate, refl, ap, arith, sym, ◌∙◌, append_assoc}
+use Rattle.std.proofs.Common.{◌≡◌, ℕ, suc, ◌≤◌, List, [], ◌∷◌, ◌++◌, length, map, flat_map, take, replicate, refl, ap, sym, ◌∙◌, append_assoc}
 use Rattle.std.specs.Prelude.{ℤ, pos}
 use Rattle.std.specs.List.{AllByRecursion}
 use Rattle.std.proofs.lemmas.List.{map-append, take_all}

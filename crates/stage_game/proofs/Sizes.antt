@@ -1,12 +1,12 @@
 -- How large the numbers of stage programs are: nothing negative is divided, and no quotient is above the scale.
-use Rattle.std.proofs.Common.{◌≡◌, ℕ, zero, suc, ◌+◌, ◌-◌, ◌*◌, ◌^◌, ◌<◌, ◌≤◌, max, refl, ap, arith, sym, ◌∙◌, subst}
+use Rattle.std.proofs.Common.{◌≡◌, ℕ, suc, ◌+◌, ◌-◌, ◌*◌, ◌^◌, ◌<◌, ◌≤◌, max, ap, arith, sym, ◌∙◌, subst}
 use Rattle.std.specs.Prelude.{ℤ, pos, negsuc, neg_ℤ, ◌+ℤ◌, ◌*ℤ◌, ◌≤ℤ◌, ◌<ℤ◌, unsigned_abs, FitsSigned}
 use Rattle.std.specs.Int.{w128}
 use Rattle.std.proofs.lemmas.Int.{ints, fits_signed_from_abs}
 use Rattle.std.proofs.lemmas.Nat.{mul-le}
 use Rattle.std.proofs.Math.Nat.{mul-le-mul_left, mul-le-mul_right}
 use Rattle.scaled_num.proofs.Products.{magnitude-is}
-use Rattle.game_model.specs.Game.{GameData, IsGame, numbers, reward_at, span, unit}
+use Rattle.game_model.specs.Game.{GameData, IsGame, reward_at, span, unit}
 use Rattle.game_model.proofs.Games.{keeps-span}
 use Rattle.game_model.proofs.Worth.{span-small}
 use Rattle.alpha_set.proofs.Wide.{wide}

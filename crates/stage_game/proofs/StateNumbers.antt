@@ -1,9 +1,8 @@
 -- What the code forms on the way to what going on with a next state brings.
-use Rattle.std.proofs.Common.{◌≡◌, ℕ, ◌+◌, ◌*◌, ◌^◌, ◌<◌, ◌≤◌, List, [], ◌∷◌, filter, length, refl, ap, arith, sym, subst, ◌∙◌}
+use Rattle.std.proofs.Common.{◌≡◌, ℕ, ◌*◌, ◌^◌, ◌<◌, ◌≤◌, List, [], ◌∷◌, filter, ap, arith, sym, subst, ◌∙◌}
 use Rattle.std.specs.Prelude.{ℤ, pos, neg_ℤ, ◌*ℤ◌, ◌≤ℤ◌, ◌<ℤ◌, FitsSigned}
 use Rattle.std.specs.List.{AllByRecursion}
 use Rattle.std.specs.Int.{w128}
-use Rattle.std.proofs.lemmas.Int.{ints}
 use Rattle.std.proofs.lemmas.Nat.{mul-le}
 use Rattle.game_model.specs.Game.{GameData, IsGame, numbers, row_at}
 use Rattle.game_model.specs.declared.parts.Landing.{Landing}
@@ -13,7 +12,7 @@ use Rattle.stage_game.specs.Asked.{AreBits}
 use Rattle.stage_game.specs.Scaling.{ceil_of, scale}
 use Rattle.stage_game.specs.UpperProgram.{state_brings}
 use Rattle.stage_game.proofs.LowerNumbers.{bits-few}
-use Rattle.stage_game.proofs.Sizes.{IsQuotient, limits, number-fits, over, product-is, roomy, under, whole}
+use Rattle.stage_game.proofs.Sizes.{limits, number-fits, over, product-is, roomy, under, whole}
 use Rattle.stage_game.proofs.UpperNumbers.{seen-weight, state-is, weight-upto}
 
 -- landings to fewer states

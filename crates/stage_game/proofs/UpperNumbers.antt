@@ -1,6 +1,6 @@
 -- The numbers of the upper stage program: what the code divides, and that all are narrow.
-use Rattle.std.proofs.Common.{◌≡◌, ℕ, ◌+◌, ◌*◌, ◌^◌, ◌<◌, ◌≤◌, cond, ◌==◌, ◌&&◌, List, [], ◌∷◌, ◌++◌, filter, get_or, length, map, refl, ap, arith, sym, subst, ◌∙◌}
-use Rattle.std.specs.Prelude.{ℤ, pos, neg_ℤ, ◌+ℤ◌, ◌*ℤ◌, ◌≤ℤ◌, sum_by, unsigned_abs}
+use Rattle.std.proofs.Common.{◌≡◌, ℕ, ◌*◌, ◌^◌, ◌<◌, ◌≤◌, ◌==◌, ◌&&◌, List, [], ◌∷◌, ◌++◌, filter, get_or, length, map, arith, sym, subst}
+use Rattle.std.specs.Prelude.{ℤ, pos, neg_ℤ, ◌+ℤ◌, ◌*ℤ◌, unsigned_abs}
 use Rattle.std.specs.List.{AllByRecursion}
 use Rattle.std.proofs.lemmas.Int.{ints}
 use Rattle.scaled_num.specs.Share.{at}
@@ -19,8 +19,8 @@ use Rattle.stage_game.specs.Asked.{AreBits}
 use Rattle.stage_game.specs.Masses.{over_pairs}
 use Rattle.stage_game.specs.Pairs.{pairs}
 use Rattle.stage_game.specs.Scaling.{ceil_of, floor_of, most_scale, paid_above, pay_width, scale, width, worth_rows}
-use Rattle.stage_game.specs.UpperProgram.{point_row, state_brings, upper_worth_row}
-use Rattle.stage_game.specs.Variables.{GoesOn, Plays, Variable, WorthOf, variables}
+use Rattle.stage_game.specs.UpperProgram.{point_row, upper_worth_row}
+use Rattle.stage_game.specs.Variables.{Variable, variables}
 use Rattle.stage_game.proofs.Appends.{IsInside, each-of-pairs, over-pairs, pairs-inside}
 use Rattle.stage_game.proofs.BeliefShares.{belief-quotient}
 use Rattle.stage_game.proofs.LowerNumbers.{bits-few, minus-narrow, narrow-over, one-narrow}

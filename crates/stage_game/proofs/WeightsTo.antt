@@ -1,8 +1,8 @@
 -- A running sum over landings, of the weights that lead to one next state.
-use Rattle.std.proofs.Common.{◌≡◌, ℕ, ◌+◌, ◌^◌, ◌<◌, ◌≤◌, cond, ◌==◌, List, get_or, length, take, refl, ap, arith, sym, ◌∙◌, inl, inr}
+use Rattle.std.proofs.Common.{◌≡◌, ℕ, ◌+◌, ◌<◌, ◌≤◌, cond, ◌==◌, List, get_or, length, take, refl, ap, arith, sym, ◌∙◌, inl, inr}
 use Rattle.std.specs.Prelude.{ℤ, pos, ◌+ℤ◌, ◌≤ℤ◌, sum_by, unsigned_abs, FitsSigned}
 use Rattle.std.specs.Int.{w128}
-use Rattle.std.proofs.lemmas.Int.{ints, fits_signed_from_abs}
+use Rattle.std.proofs.lemmas.Int.{fits_signed_from_abs}
 use Rattle.std.proofs.lemmas.Bool.Decides.{eqb_tells}
 use Rattle.std.proofs.lemmas.List.Sums.{sum_by_more, sum_by_more_le}
 use Rattle.scaled_num.proofs.Products.{magnitude-is}

@@ -1,6 +1,5 @@
 -- Rows about one own action and one observation.
-use Rattle.std.specs.Prelude.{ℕ, ℤ, pos, List, map, ◌≡◌, ◌<◌}
-use Rattle.game_model.specs.Game.{GameData}
+use Rattle.std.specs.Prelude.{ℕ, ℤ, pos, List, map, ◌≡◌}
 use Rattle.stage_game.specs.Variables.{GoesOn, Plays, Variable, WorthOf}
 
 -- A row has one number at the own action a, a block of numbers where play goes on after a and the observation o, and

@@ -1,4 +1,4 @@
-use Rattle.std.proofs.Common.{◌≡◌, ◌∙◌, ◌<◌, ◌≤◌, ℕ, List, true, false, ◌==◌, ap, arith, length, rules, sym}
+use Rattle.std.proofs.Common.{◌≡◌, ◌∙◌, ℕ, List, true, false, ◌==◌, ap, arith, length, rules, sym}
 use Rattle.std.specs.List.{list_any}
 use Rattle.stage_game.specs.Chosen.{is_among}
 use Rattle.stage_game.proofs.Choosing.{among-any, chosen-full, chosen-new, chosen-there}

@@ -1,4 +1,4 @@
-use Rattle.std.proofs.Common.{◌≡◌, ◌∙◌, ◌++◌, ◌∷◌, [], ◌-◌, ◌≤◌, ℕ, List, ap, append_assoc, arith, length, take}
+use Rattle.std.proofs.Common.{◌∙◌, ◌++◌, ◌∷◌, [], ◌-◌, ℕ, List, ap, append_assoc, arith, take}
 use Rattle.std.proofs.lemmas.List.{take_all}
 use Rattle.stage_game.specs.Chosen.{different, downwards}
 use Rattle.stage_game.proofs.Choosing.{downwards-more, length-downwards}

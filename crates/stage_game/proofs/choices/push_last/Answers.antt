@@ -1,4 +1,4 @@
-use Rattle.std.proofs.Common.{◌≡◌, ◌∙◌, ◌++◌, ◌∷◌, [], ◌-◌, ◌<◌, ◌≤◌, ℕ, List, ap, append_assoc, arith, length, min, rules, sym, take}
+use Rattle.std.proofs.Common.{◌≡◌, ◌∙◌, ◌++◌, ◌∷◌, [], ◌-◌, ◌<◌, ℕ, List, ap, append_assoc, arith, length, min, rules, take}
 use Rattle.std.proofs.lemmas.List.{take_min}
 use Rattle.stage_game.specs.Chosen.{downwards}
 use Rattle.stage_game.proofs.Choosing.{downwards-more, length-downwards}

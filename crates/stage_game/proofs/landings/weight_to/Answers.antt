@@ -1,8 +1,5 @@
-use Rattle.std.proofs.Common.{◌≡◌, ◌∙◌, ap, rules, sym, ℕ, List, take}
-use Rattle.std.specs.Prelude.{ℤ, pos, FitsSigned}
-use Rattle.std.specs.Int.{w128}
+use Rattle.std.proofs.Common.{◌∙◌}
 use Rattle.std.proofs.lemmas.Int.{to_z-of_z}
-use Rattle.belief.specs.Masses.{landed}
 use Rattle.stage_game.proofs.WeightsTo.{weight-next}
 use Rattle.stage_game.proofs.landings.weight_to.Goals.{then-landing-t, else-landing-t}
 use Rattle.stage_game.proofs.landings.weight_to.Goals as goal

@@ -1,4 +1,4 @@
-use Rattle.std.proofs.Common.{◌≡◌, ◌∙◌, ◌++◌, [], ℕ, List, ap, map}
+use Rattle.std.proofs.Common.{◌∙◌, ◌++◌, [], ℕ, List, ap, map}
 use Rattle.scaled_num.specs.Sums.{below}
 use Rattle.stage_game.proofs.Appends.{numbers-block-more}
 use Rattle.stage_game.proofs.pairs.all_pairs.Goals as goal

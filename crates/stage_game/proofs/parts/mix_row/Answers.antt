@@ -1,4 +1,4 @@
-use Rattle.std.proofs.Common.{◌∙◌, ℕ, ◌≡◌, ◌+◌, ◌*◌, ap, arith, sym}
+use Rattle.std.proofs.Common.{◌∙◌, ℕ, ◌+◌, ◌*◌, ap, arith, sym}
 use Rattle.stage_game.proofs.Resized.{mix_row-steps}
 use Rattle.stage_game.proofs.parts.mix_row.Goals as goal
 

@@ -1,5 +1,5 @@
-use Rattle.std.proofs.Common.{◌∙◌, ◌≡◌, ◌≤◌, ◌^◌, ap, arith, rules}
-use Rattle.std.specs.Prelude.{ℤ, pos, FitsSigned, ◌*ℤ◌, ◌≤ℤ◌, ◌<ℤ◌, ◌+ℤ◌}
+use Rattle.std.proofs.Common.{arith, rules}
+use Rattle.std.specs.Prelude.{FitsSigned, ◌*ℤ◌}
 use Rattle.std.specs.Int.{w128}
 use Rattle.std.proofs.lemmas.Int.{ints, to_z-of_z, fits_signed_from_abs}
 use Rattle.scaled_num.specs.Share.{at}
@@ -8,7 +8,6 @@ use Rattle.stage_game.specs.Scaling.{scale}
 use Rattle.stage_game.proofs.BeliefShares.{belief-quotient, part-of}
 use Rattle.stage_game.proofs.LowerNumbers.{bits-few}
 use Rattle.stage_game.proofs.Quotients.{ceil-is}
-use Rattle.stage_game.proofs.Sizes.{number-fits}
 use Rattle.stage_game.proofs.scaling.goal_of.Goals as goal
 
 pub returns : goal.returns

@@ -1,7 +1,7 @@
 use Rattle.std.proofs.Common.{arith, ◌≡◌, ◌∙◌, ap, rules}
 use Rattle.std.specs.Prelude.{ℤ, pos, neg_ℤ, FitsSigned, ◌-ℤ◌, ◌≤ℤ◌, ◌<ℤ◌, ◌*ℤ◌}
 use Rattle.std.specs.Int.{w128}
-use Rattle.std.proofs.lemmas.Int.{ints, to_z-of_z, fits_signed_from_abs}
+use Rattle.std.proofs.lemmas.Int.{ints, to_z-of_z}
 use Rattle.scaled_num.proofs.Floors.{cancel}
 use Rattle.stage_game.specs.Scaling.{ceil_of}
 use Rattle.stage_game.proofs.Quotients.{ceil-is, ceil-written}

@@ -1,9 +1,8 @@
-use Rattle.std.proofs.Common.{◌≡◌, ◌∙◌, ◌++◌, ◌∷◌, [], ℕ, List, ap, arith, filter, map, rules}
-use Rattle.std.specs.Prelude.{ℤ, pos, neg_ℤ, FitsSigned, ◌*ℤ◌}
+use Rattle.std.proofs.Common.{◌≡◌, ◌∙◌, ◌++◌, ◌∷◌, [], ℕ, List, ap, arith, map, rules}
+use Rattle.std.specs.Prelude.{ℤ, neg_ℤ, FitsSigned, ◌*ℤ◌}
 use Rattle.std.specs.Int.{w128}
 use Rattle.std.proofs.lemmas.Int.{to_z-of_z}
 use Rattle.scaled_num.specs.Sums.{below}
-use Rattle.game_model.specs.Game.{GameData}
 use Rattle.stage_game.specs.Scaling.{ceil_of}
 use Rattle.stage_game.specs.UpperProgram.{state_brings}
 use Rattle.stage_game.proofs.Appends.{number-more}

@@ -1,7 +1,7 @@
-use Rattle.std.proofs.Common.{◌≡◌, ◌∙◌, ◌++◌, ◌∷◌, [], ℕ, ◌^◌, List, ap, rules, arith, subst, sym}
+use Rattle.std.proofs.Common.{◌≡◌, ◌∙◌, ◌++◌, ◌∷◌, [], ◌^◌, List, ap, rules, arith, subst, sym}
 use Rattle.std.specs.Prelude.{ℤ, pos, neg_ℤ, FitsSigned, ◌<ℤ◌, ◌≤ℤ◌}
 use Rattle.std.specs.Int.{w128}
-use Rattle.std.proofs.lemmas.Int.{ints, to_z-of_z}
+use Rattle.std.proofs.lemmas.Int.{to_z-of_z}
 use Rattle.game_model.specs.Game.{GameData}
 use Rattle.stage_game.specs.Scaling.{ceil_of, paid_above, pay_width}
 use Rattle.stage_game.proofs.Appends.{number-more}

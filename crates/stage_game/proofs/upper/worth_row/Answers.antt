@@ -1,4 +1,4 @@
-use Rattle.std.proofs.Common.{◌≡◌, ◌∙◌, ◌++◌, [], ℕ, List, ap, cond, ◌==◌, flat_map, get_or, map, subst, sym, take}
+use Rattle.std.proofs.Common.{◌≡◌, ◌∙◌, ◌++◌, ℕ, List, ap, cond, ◌==◌, flat_map, get_or, map, subst, sym, take}
 use Rattle.std.specs.Prelude.{ℤ, pos, neg_ℤ}
 use Rattle.std.specs.List.{AllByRecursion}
 use Rattle.scaled_num.specs.Sums.{below}
