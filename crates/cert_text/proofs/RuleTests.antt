@@ -9,7 +9,7 @@ use Rattle.text_words.proofs.Limits.{and_true, true_and, le_from, lt_from, le_to
 use Rattle.text_words.proofs.Chains.{Tests, cond_tests}
 use Rattle.game_model.specs.Branches.{Branch, IsBranchBefore, mix_total}
 use Rattle.game_model.specs.Game.{IsWithin, AreCoprime}
-use Rattle.controller.specs.Certificates.{most_members}
+use Rattle.game_model.specs.Limits.{most_members}
 use Rattle.cert_text.specs.declared.fault.CertKind.{CertKind}
 use Rattle.cert_text.specs.declared.fault.CertKind.TheVariants as kinds
 use Rattle.cert_text.specs.Entries.{Entry, Next, Split}
