@@ -1,3 +1,5 @@
+//! Worked quotients, divisors, sums, fractions and shares.
+
 ghost use Rattle.std.specs.Prelude.{pos, ◌<ℤ◌};
 
 use scaled_num::{
