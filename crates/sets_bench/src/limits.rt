@@ -53,7 +53,7 @@ fn are_parts(mass: &[i128]) -> bool
 
 /// Whether a certificate fits a game, both of its sets are full, and its first points are the corners.
 pub fn are_full(game: &Game, certificate: &Certificate) -> bool
-    ensures { IsTrue result → AreFull game.now certificate.now.nodes.members certificate.now.points.members }
+    ensures { IsTrue result → AreFull game.now certificate.now.nodes certificate.now.points }
 {
     law_game(game);
     certificate.fits(game)

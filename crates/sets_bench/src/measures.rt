@@ -48,8 +48,8 @@ pub fn measure(
     wanted: &[(u32, i128)],
     masses: &[[i128; MOST_STATES]],
 ) -> io::Result<()>
-    requires full { AreFull game.now certificate.now.nodes.members certificate.now.points.members }
-    requires wanted { IsWanted certificate.now.points.members game.now.shape.states wanted.now }
+    requires full { AreFull game.now certificate.now.nodes certificate.now.points }
+    requires wanted { IsWanted certificate.now.points game.now.shape.states wanted.now }
     requires masses { AllByRecursion (IsMass game.now) masses.now }
 {
     let mut took = u128::MAX;
@@ -89,8 +89,8 @@ fn answers_of(
     wanted: &[(u32, i128)],
     masses: &[[i128; MOST_STATES]],
 ) -> i128
-    requires full { AreFull game.now certificate.now.nodes.members certificate.now.points.members }
-    requires wanted { IsWanted certificate.now.points.members game.now.shape.states wanted.now }
+    requires full { AreFull game.now certificate.now.nodes certificate.now.points }
+    requires wanted { IsWanted certificate.now.points game.now.shape.states wanted.now }
     requires masses { AllByRecursion (IsMass game.now) masses.now }
 {
     match call {
