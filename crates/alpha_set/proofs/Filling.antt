@@ -8,13 +8,13 @@ use Rattle.std.proofs.lemmas.List.{take_all}
 use Rattle.std.proofs.lemmas.List.Sums.{sum_by-cons, sum_by-take-le}
 use Rattle.scaled_num.specs.Sums.{total}
 use Rattle.scaled_num.proofs.Sums.{each-at}
-use Rattle.game_model.specs.Branches.{Branch, IsBranch, branch_of, branches_at, mix_total}
+use Rattle.game_model.specs.Branches.{Branch, Continuation, IsBranch, branch_of, branches_at, continuation_of, mix_total}
 use Rattle.game_model.specs.Game.{GameData, IsGame, IsWithin, numbers, span}
 use Rattle.game_model.proofs.Games.{weight-abs}
 use Rattle.game_model.proofs.Pay.{each-from}
 use Rattle.game_model.proofs.Sizes.{total-more}
 use Rattle.game_model.proofs.Worth.{span-small, total-bound}
-use Rattle.alpha_set.specs.Nodes.{NodeData, NodeFits, Step, no_node, node_of, nodes_of, step_of, steps_worth}
+use Rattle.alpha_set.specs.Nodes.{NodeData, NodeFits, no_node, node_of, nodes_of, steps_worth}
 use Rattle.alpha_set.specs.Members.{HoldsWorths, IsMember, IsTable, brought, data_of, entry_at, most_nodes, node_data, table_length, table_index}
 use Rattle.alpha_set.specs.declared.nodes.Node.{Node as NodeParts}
 use Rattle.game_model.specs.declared.branches.Branch.{Branch as StepParts}
@@ -41,9 +41,9 @@ pub all-steps : (nodes : List NodeParts) (vector mix : List ℤ) (a o t : ℕ) (
 all-steps nodes vector mix a o t [] h = refl
 all-steps nodes vector mix a o t (x ∷ xs) h =
     let v : ℤ = get_or (vector_of nodes x.k) t (pos 0) in
-    let worth = λ (step : Step). pos step.weight *ℤ (nodes_of (data_of nodes) step.node).vector t in
-    let first : Step = step_of (branch_of x) in
-    let others : List Step = filter (λ (step : Step). (step.own == a) && (step.seen == o)) (map step_of (map branch_of xs)) in
+    let worth = λ (step : Continuation). pos step.weight *ℤ (nodes_of (data_of nodes) step.member).vector t in
+    let first : Continuation = continuation_of (branch_of x) in
+    let others : List Continuation = filter (λ (step : Continuation). (step.own == a) && (step.seen == o)) (map continuation_of (map branch_of xs)) in
     let more : x.weight *ℤ v ≡ pos (unsigned_abs x.weight) *ℤ v = ap (λ (z : ℤ). z *ℤ v) (weight-abs x.weight h.0) in
     elim ((x.a == a) && (x.o == o)) as (λ (b : Bool). cond b (x.weight *ℤ v) (pos 0) +ℤ total (step_worth nodes a o t) xs ≡ total worth (cond b (first ∷ others) others)) [
       | true ↦ ap (λ (z : ℤ). z +ℤ total (step_worth nodes a o t) xs) more ∙ ap (λ (z : ℤ). pos (unsigned_abs x.weight) *ℤ v +ℤ z) (all-steps nodes vector mix a o t xs h.1)

@@ -2,11 +2,13 @@
 use Rattle.game_model.specs.Limits.{most_states, most_actions, most_observations, most_members}
 use Rattle.std.specs.Prelude.{ℕ, ℤ, pos, List, length, map, cond, unsigned_abs, slice_index_or, ◌≡◌, ◌+◌, ◌*◌, ◌+ℤ◌, ◌*ℤ◌, ◌≤ℤ◌, ◌<◌, ◌≤◌, ◌==◌, ◌&&◌}
 use Rattle.std.specs.List.{AllByRecursion}
+use Rattle.scaled_num.specs.First.{FirstIn}
 use Rattle.scaled_num.specs.Sums.{below, total}
 use Rattle.game_model.specs.Branches.{Branch, branch_of, mix_total}
-use Rattle.game_model.specs.Game.{GameData, span, unit}
+use Rattle.game_model.specs.Game.{GameData, numbers, span, unit}
 use Rattle.game_model.specs.Numbers.{Numbers, over_row}
-use Rattle.alpha_set.specs.Nodes.{Node, NodeData, NodeFits, steps_worth}
+use Rattle.alpha_set.specs.Faults.{NodeFailsFirst}
+use Rattle.alpha_set.specs.Nodes.{Node, NodeData, NodeFits, NodeStands, node_of, nodes_of, steps_worth}
 use Rattle.alpha_set.specs.declared.nodes.Node.{Node as NodeParts}
 use Rattle.game_model.specs.declared.branches.Branch.{Branch as StepParts}
 
@@ -30,6 +32,13 @@ pub record IsMember (g : GameData) (nodes : List NodeParts) (node : NodeParts) :
   pub each : AllByRecursion (NodeFits g most_nodes) (data_of nodes)
   pub fits : NodeFits g most_nodes (node_data node)
   pub named : AllByRecursion (λ (step : Branch). step.member < length nodes) (map branch_of node.next.items)
+
+-- a node stands among others; it fails first at this place
+abbrev pub StandsAmong : GameData → List NodeParts → NodeParts → Type 0
+StandsAmong g nodes node = NodeStands (numbers g) (nodes_of (data_of nodes)) (node_of (node_data node))
+
+abbrev pub FailsFirstAmong : GameData → List NodeParts → NodeParts → ℕ × ℕ → Type 0
+FailsFirstAmong g nodes node place = NodeFailsFirst (numbers g) (nodes_of (data_of nodes)) (node_of (node_data node)) place
 
 -- What steps are worth stands in a table, by own action, observation and next state.
 abbrev pub table_length : ℕ
@@ -63,8 +72,22 @@ paid g mix s c = total (λ a. pos (mix a) *ℤ g.reward s a c) (below g.own_acti
 abbrev pub expected : Numbers → List ℤ → ℕ → ℕ → ℤ
 expected g table s c = total (λ a. over_row g s a c (λ o t. entry_at table a o t)) (below g.own_actions)
 
+-- the weights of a mix, by own action
+abbrev pub mix_of : List ℤ → ℕ → ℕ
+mix_of mix a = unsigned_abs (slice_index_or mix a (pos 0))
+
+-- what one stage gives in the state s against the informed action c, where a table holds what the steps are worth: the
+-- right side of the node rule
+abbrev pub worth_by : Numbers → (ℕ → ℕ) → List ℤ → ℕ → ℕ → ℤ
+worth_by g mix table s c = pos (unit * g.row_total * g.discount_under) *ℤ paid g mix s c +ℤ pos g.discount_over *ℤ expected g table s c
+
 -- the node rule, where a table holds what the steps are worth
 abbrev pub HoldsBy : Numbers → Node → List ℤ → ℕ → ℕ → Type 0
-HoldsBy g node table s c =
-    (node.vector s *ℤ pos (mix_total * g.row_total * g.discount_under))
-    ≤ℤ (pos (unit * g.row_total * g.discount_under) *ℤ paid g node.mix s c +ℤ pos g.discount_over *ℤ expected g table s c)
+HoldsBy g node table s c = (node.vector s *ℤ pos (mix_total * g.row_total * g.discount_under)) ≤ℤ worth_by g node.mix table s c
+
+-- by a table, the node rule holds at all of these places; it fails first at this one among them
+abbrev pub AllHoldBy : GameData → NodeParts → List ℤ → List (ℕ × ℕ) → Type 0
+AllHoldBy g node table places = AllByRecursion (λ (place : ℕ × ℕ). HoldsBy (numbers g) (node_of (node_data node)) table place.0 place.1) places
+
+abbrev pub FailsFirstBy : GameData → NodeParts → List ℤ → List (ℕ × ℕ) → ℕ × ℕ → Type 0
+FailsFirstBy g node table places place = FirstIn (λ (place : ℕ × ℕ). HoldsBy (numbers g) (node_of (node_data node)) table place.0 place.1) places place

@@ -2,7 +2,7 @@
 use Rattle.std.specs.Prelude.{ℕ, ℤ, pos, neg_ℤ, ◌+ℤ◌, ◌*ℤ◌, ◌≤ℤ◌, List, [], map, filter, length, ◌≡◌, ◌<◌, ◌*◌, ◌==◌, ◌&&◌, slice_index_or, unsigned_abs}
 use Rattle.std.specs.List.{AllByRecursion}
 use Rattle.scaled_num.specs.Sums.{below, total, sum_of}
-use Rattle.game_model.specs.Branches.{AreBranches, Branch, branches_at, mix_total}
+use Rattle.game_model.specs.Branches.{AreBranches, Branch, Continuation, branches_at, continuation_of, continuations_at, mix_total}
 use Rattle.game_model.specs.Game.{GameData, IsWithin, numbers, span, unit}
 use Rattle.game_model.specs.Numbers.{Numbers, over_row}
 
@@ -29,28 +29,19 @@ pub record NodeFits (g : GameData) (nodes : ℕ) (node : NodeData) : Type 0 wher
       total (λ b. b.weight) (branches_at node.next a o) ≡ slice_index_or node.mix a (pos 0)
 
 -- ---- the numbers of a node, which the rule and the plans take
-pub record Step : Type 0 where
-  pub own : ℕ
-  pub seen : ℕ
-  pub node : ℕ
-  pub weight : ℕ
-
 pub record Node : Type 0 where
   pub vector : ℕ → ℤ
   pub mix : ℕ → ℕ
-  pub next : List Step
+  pub next : List Continuation
 
 abbrev pub no_node : NodeData
 no_node = record { vector = []; mix = []; next = [] }
-
-abbrev pub step_of : Branch → Step
-step_of b = record { own = b.own; seen = b.seen; node = b.member; weight = unsigned_abs b.weight }
 
 abbrev pub node_of : NodeData → Node
 node_of node = record {
   vector = λ s. slice_index_or node.vector s (pos 0);
   mix = λ a. unsigned_abs (slice_index_or node.mix a (pos 0));
-  next = map step_of node.next;
+  next = map continuation_of node.next;
 }
 
 -- the nodes of a list, by number
@@ -58,12 +49,12 @@ abbrev pub nodes_of : List NodeData → ℕ → Node
 nodes_of nodes i = node_of (slice_index_or nodes i no_node)
 
 -- the steps after an own action and an observation
-abbrev pub steps_at : Node → ℕ → ℕ → List Step
-steps_at node a o = filter (λ step. (step.own == a) && (step.seen == o)) node.next
+abbrev pub steps_at : Node → ℕ → ℕ → List Continuation
+steps_at node a o = continuations_at node.next a o
 
 -- what the steps after an own action and an observation are worth in the state t
 abbrev pub steps_worth : (ℕ → Node) → Node → ℕ → ℕ → ℕ → ℤ
-steps_worth nodes node a o t = total (λ step. pos step.weight *ℤ (nodes step.node).vector t) (steps_at node a o)
+steps_worth nodes node a o t = total (λ step. pos step.weight *ℤ (nodes step.member).vector t) (steps_at node a o)
 
 -- what one stage of a node gives in the state s against the informed action c, in units of M * D * Q
 abbrev pub node_worth : Numbers → (ℕ → Node) → Node → ℕ → ℕ → ℤ

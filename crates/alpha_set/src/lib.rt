@@ -4,6 +4,7 @@
 mod laws;
 mod nodes;
 mod sets;
+mod stages;
 mod stands;
 mod tables;
 mod worth;

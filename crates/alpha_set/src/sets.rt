@@ -2,14 +2,17 @@
 
 ghost use Rattle.alpha_set.specs.Faults.{NodeFailsFirst};
 ghost use Rattle.alpha_set.specs.Members.{most_nodes, node_data};
-ghost use Rattle.alpha_set.specs.Nodes.{NodeFits, NodeStands, no_node, nodes_of};
+ghost use Rattle.alpha_set.specs.Nodes.{NodeFits, NodeStands, no_node, node_of, node_worth, nodes_of};
 ghost use Rattle.alpha_set.specs.Worth.{AreWeighed, IsWorth};
+ghost use Rattle.game_model.specs.Bounds.{IsLeastOf};
 ghost use Rattle.game_model.specs.Game.{numbers};
 ghost use Rattle.game_model.specs.Spans.{IsWithinSpan};
+ghost use Rattle.scaled_num.specs.Share.{at};
 ghost use Rattle.std.specs.List.{AllByRecursion};
-ghost use Rattle.std.specs.Prelude.{IfOk, IfSome, IsErrOf, IsNone, IsOk, OnErr, OnOk, [], length, slice_index_or, vec_capacity, vec_len, ◌++◌, ◌+◌, ◌<◌, ◌↔◌, ◌∷◌, ◌≡◌, ◌≤◌};
+ghost use Rattle.std.specs.Prelude.{IfOk, IfSome, IsErrOf, IsNone, IsOk, OnErr, OnOk, [], length, slice_index_or, vec_capacity, vec_len, ℕ, ◌++◌, ◌+◌, ◌<◌, ◌↔◌, ◌∷◌, ◌≡◌, ◌≤◌};
 
 use crate::nodes::Node;
+use crate::stages::stage_worths;
 use crate::stands::first_fault;
 use crate::worth::{are_narrow, greatest};
 use game_model::Game;
@@ -46,9 +49,13 @@ impl Model for NodeSet {
 
     ghost Value = { SetData NodeData };
 
-    ghost view = { λ set. record { members = map node_data set.nodes.items; spare = vec_capacity set.nodes - vec_len set.nodes } };
+    ghost view = { λ set. record {
+      members = map node_data set.nodes.items;
+      spare = vec_capacity set.nodes - vec_len set.nodes;
+    } };
 
-    ghost invariant = { λ set. (length set.nodes.items ≤ most_nodes) × (IsTrue set.narrow → HaveNarrowEntries (data_of set.nodes.items)) };
+    ghost invariant = { λ set. (length set.nodes.items ≤ most_nodes)
+        × (IsTrue set.narrow → HaveNarrowEntries (data_of set.nodes.items)) };
 }
 
 impl NodeSet {
@@ -125,7 +132,8 @@ impl NodeSet {
         requires some { 1 ≤ length self.now.members }
         requires weighed { AreWeighed self.now.members mass.now }
         ensures worth { IsWorth self.now.members mass.now result.0 result.1 }
-        ensures bounded { (weighed : AreWeighed self.now.members mass.now) → IsWithinSpan weighed.game mass.now result.0 }
+        ensures bounded { (weighed : AreWeighed self.now.members mass.now) →
+            IsWithinSpan weighed.game mass.now result.0 }
     {
         greatest(&self.nodes, self.narrow, mass)
     }
@@ -135,11 +143,27 @@ impl NodeSet {
     pub fn stands(&self, game: &Game, i: u32) -> Option<(u32, u32)>
         requires member { i < length self.now.members }
         requires fits { AllByRecursion (NodeFits game.now most_nodes) self.now.members }
-        requires named { AllByRecursion (λ step. step.member < length self.now.members) (slice_index_or self.now.members i no_node).next }
-        ensures none { IsNone result ↔ NodeStands (numbers game.now) (nodes_of self.now.members) (nodes_of self.now.members i) }
-        ensures first { IfSome result (λ place. NodeFailsFirst (numbers game.now) (nodes_of self.now.members) (nodes_of self.now.members i) place.0 place.1) }
+        requires named { AllByRecursion (λ step. step.member < length self.now.members)
+            (slice_index_or self.now.members i no_node).next }
+        ensures none { IsNone result ↔ NodeStands (numbers game.now) (nodes_of self.now.members)
+            (nodes_of self.now.members i) }
+        ensures first { IfSome result (NodeFailsFirst (numbers game.now) (nodes_of self.now.members)
+            (nodes_of self.now.members i)) }
     {
         first_fault(game, &self.nodes, &self.nodes[i as usize])
+    }
+
+    /// Writes what one stage of a node gives among these: for each state the least, over the informed actions, of the
+    /// right side of the node rule, in units of the mix total times the row total times the discount's denominator. The
+    /// node may be one that is not in the set, and its own entries do not count. It takes no memory.
+    pub fn stage_worths(&self, game: &Game, node: &Node, worths: &mut [i128])
+        requires members { AllByRecursion (NodeFits game.now most_nodes) self.now.members }
+        requires fits { NodeFits game.now (length self.now.members) (node_data node.now) }
+        requires states { length worths.old ≡ game.now.shape.states }
+        ensures long { length worths.new ≡ game.now.shape.states }
+        ensures least { (s : ℕ) → s < game.now.shape.states → IsLeastOf (node_worth (numbers game.now) (nodes_of self.now.members) (node_of (node_data node.now)) s) game.now.shape.informed_actions (at worths.new s) }
+    {
+        stage_worths(game, &self.nodes, node, worths);
     }
 }
 

@@ -48,9 +48,11 @@ fn add(step: &Branch, vector: &[i128], table: &mut [i128])
     requires few { length vector.now ≤ most_states }
     requires entries { AllByRecursion (λ x. unsigned_abs x ≤ 2 ^ 66) vector.now }
     requires long { length table.old ≡ table_length }
-    requires small { (t : ℕ) → t < length vector.now → unsigned_abs (entry_at table.old step.now.a step.now.o t) ≤ 2 ^ 82 }
+    requires small { (t : ℕ) → t < length vector.now →
+        unsigned_abs (entry_at table.old step.now.a step.now.o t) ≤ 2 ^ 82 }
     ensures long { length table.new ≡ table_length }
-    ensures brought { (a o t : ℕ) → o < most_observations → t < length vector.now → entry_at table.new a o t ≡ entry_at table.old a o t +ℤ brought step.now vector.now a o t }
+    ensures brought { (a o t : ℕ) → o < most_observations → t < length vector.now →
+        entry_at table.new a o t ≡ entry_at table.old a o t +ℤ brought step.now vector.now a o t }
 {
     let start = index(step.a, step.o, 0);
     for t in 0..vector.len() {
@@ -64,7 +66,8 @@ pub fn later(game: &Game, table: &[i128], s: u32, c: u32) -> i128
     requires state { s < game.now.shape.states }
     requires informed { c < game.now.shape.informed_actions }
     ensures exact { result ≡ expected (numbers game.now) table.now s c }
-    ensures small { unsigned_abs result ≤ most_actions * (unsigned_abs game.now.shape.row_total * (mix_total * span game.now)) }
+    ensures small { unsigned_abs result ≤ most_actions *
+        (unsigned_abs game.now.shape.row_total * (mix_total * span game.now)) }
 {
     law_game(game);
     let mut sum = 0;

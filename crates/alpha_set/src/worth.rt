@@ -1,11 +1,11 @@
 //! What nodes are worth at a mass.
 
-ghost use Rattle.alpha_set.specs.Members.{data_of, most_nodes};
+ghost use Rattle.alpha_set.specs.Members.{data_of, most_nodes, node_data};
 ghost use Rattle.alpha_set.specs.Products.{AreNarrow, AreShort, CanMultiply, HaveNarrowEntries, IsFirstBest, IsGathered, node_product_of, product_of};
-ghost use Rattle.alpha_set.specs.Worth.{AreWeighed, IsWorth};
+ghost use Rattle.alpha_set.specs.Worth.{AreWeighed, IsWorth, worth_at};
 ghost use Rattle.std.specs.Bool.{IsTrue};
 ghost use Rattle.std.specs.List.{AllByRecursion};
-ghost use Rattle.std.specs.Prelude.{length, pos, take, ◌↔◌, ◌≡◌, ◌≤ℤ◌, ◌≤◌};
+ghost use Rattle.std.specs.Prelude.{[], length, pos, take, ◌↔◌, ◌∷◌, ◌≡◌, ◌≤ℤ◌, ◌≤◌};
 
 use crate::nodes::Node;
 use game_model::MOST_STATES;
@@ -42,6 +42,16 @@ pub fn greatest(nodes: &[Node], narrow: bool, mass: &[i128]) -> (i128, u32)
     let count = gather(mass, &mut portions);
     let short = narrow && are_narrow(mass);
     first_greatest(nodes, &portions[..count], short)
+}
+
+/// The product of a node's vector with a mass.
+pub fn node_worth(node: &Node, mass: &[i128]) -> i128
+    requires { AreWeighed (node_data node.now ∷ []) mass.now }
+    ensures { result ≡ worth_at mass.now (node_data node.now).vector }
+{
+    let mut portions = [Portion { state: 0, mass: 0 }; MOST_STATES];
+    let count = gather(mass, &mut portions);
+    wide_product(&portions[..count], &node.vector)
 }
 
 /// Writes the states that have mass to the front, in order, and answers how many they are.

@@ -7,13 +7,13 @@ use Rattle.scaled_num.specs.Share.{at}
 use Rattle.scaled_num.specs.Sums.{below, total}
 use Rattle.scaled_num.proofs.Products.{le-mulℤ, products, sums}
 use Rattle.scaled_num.proofs.Sums.{below-each, each-map, total-below, total-map, total-scale, total-single}
-use Rattle.game_model.specs.Branches.{AreRising, Branch, IsBranch, branches_at, mix_total}
+use Rattle.game_model.specs.Branches.{AreRising, Branch, Continuation, IsBranch, branches_at, continuation_of, mix_total}
 use Rattle.game_model.specs.Game.{GameData, IsGame, IsWithin, numbers, span, unit}
 use Rattle.game_model.specs.Numbers.{Numbers, over_row}
 use Rattle.game_model.specs.Seeds.{IsSeed, stage_worth}
 use Rattle.game_model.proofs.Games.{keeps-span}
 use Rattle.game_model.proofs.SeedVectors.{seeds-stand}
-use Rattle.alpha_set.specs.Nodes.{Node, NodeFits, NodeStands, Step, node_of, step_of, steps_worth}
+use Rattle.alpha_set.specs.Nodes.{Node, NodeFits, NodeStands, node_of, steps_worth}
 use Rattle.backup.specs.Seeds.{always_node}
 use Rattle.backup.proofs.Placed.{placed-at, placed-long, placed-sum, placed-within, turn}
 use Rattle.scaled_num.proofs.Each.{each-by-place}
@@ -64,8 +64,8 @@ pub steps-worth : (g : GameData) (nodes : ℕ → Node) (vector : List ℤ) (a b
 steps-worth g nodes vector a b o t lo =
     let w : ℤ = pos mix_total *ℤ (nodes a).vector t in
     let here : ℕ → Branch = λ u. record { own = a; seen = u; member = a; weight = pos mix_total } in
-    filter-total (λ (step : Step). pos step.weight *ℤ (nodes step.node).vector t) (λ (step : Step). (step.own == b) && (step.seen == o)) (map step_of (map here (below g.shape.observations)))
-    ∙ total-map (λ (step : Step). cond ((step.own == b) && (step.seen == o)) (pos step.weight *ℤ (nodes step.node).vector t) (pos 0)) step_of (map here (below g.shape.observations))
+    filter-total (λ (step : Continuation). pos step.weight *ℤ (nodes step.member).vector t) (λ (step : Continuation). (step.own == b) && (step.seen == o)) (map continuation_of (map here (below g.shape.observations)))
+    ∙ total-map (λ (step : Continuation). cond ((step.own == b) && (step.seen == o)) (pos step.weight *ℤ (nodes step.member).vector t) (pos 0)) continuation_of (map here (below g.shape.observations))
     ∙ total-map (λ (d : Branch). cond ((d.own == b) && (d.seen == o)) (pos (unsigned_abs d.weight) *ℤ (nodes d.member).vector t) (pos 0)) here (below g.shape.observations)
     ∙ total-below g.shape.observations _ (λ u. pos (cond (u == o) 1 0) *ℤ cond (a == b) w (pos 0)) (λ u lu. counts (a == b) (u == o) w)
     ∙ total-single (λ u. cond (a == b) w (pos 0)) o g.shape.observations lo

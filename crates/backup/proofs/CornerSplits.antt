@@ -6,10 +6,10 @@ use Rattle.std.proofs.lemmas.Bool.{ltb-false}
 use Rattle.scaled_num.specs.Sums.{below, total}
 use Rattle.scaled_num.proofs.Products.{mulℤ_comm}
 use Rattle.scaled_num.proofs.Sums.{total-below, total-flat_map, total-map, total-pos, total-scale, total-single}
-use Rattle.game_model.specs.Branches.{Branch}
+use Rattle.game_model.specs.Branches.{Branch, Continuation, continuation_of}
 use Rattle.game_model.specs.Game.{GameData, numbers}
 use Rattle.belief.specs.Mixes.{MixesData}
-use Rattle.point_set.specs.Points.{Point, Share, SplitHolds, point_of, share_of, shares_at}
+use Rattle.point_set.specs.Points.{Point, SplitHolds, point_of, shares_at}
 use Rattle.backup.specs.Seeds.{corner_split, has_weight, mass_at}
 use Rattle.backup.proofs.Placed.{turn}
 
@@ -17,17 +17,17 @@ zero-plus : (x y z : ℤ) → x ≡ pos 0 → z ≡ y → z ≡ x +ℤ y
 zero-plus x y z e f = omega (arith, ints)
 
 -- a sum over the shares that pass a test, where those that were left out count for nothing
-filter-total : (F : Share → ℤ) (p : Share → Bool) (q : Branch → Bool) (xs : List Branch) →
-    ((b : Branch) → q b ≡ false → cond (p (share_of b)) (F (share_of b)) (pos 0) ≡ pos 0) →
-    total F (filter p (map share_of (filter q xs))) ≡ total (λ b. cond (p (share_of b)) (F (share_of b)) (pos 0)) xs
+filter-total : (F : Continuation → ℤ) (p : Continuation → Bool) (q : Branch → Bool) (xs : List Branch) →
+    ((b : Branch) → q b ≡ false → cond (p (continuation_of b)) (F (continuation_of b)) (pos 0) ≡ pos 0) →
+    total F (filter p (map continuation_of (filter q xs))) ≡ total (λ b. cond (p (continuation_of b)) (F (continuation_of b)) (pos 0)) xs
 filter-total F p q [] none = refl
 filter-total F p q (b ∷ bs) none =
-    let G : Branch → ℤ = λ b. cond (p (share_of b)) (F (share_of b)) (pos 0) in
-    let rest : List Share = filter p (map share_of (filter q bs)) in
+    let G : Branch → ℤ = λ b. cond (p (continuation_of b)) (F (continuation_of b)) (pos 0) in
+    let rest : List Continuation = filter p (map continuation_of (filter q bs)) in
     let later : total F rest ≡ total G bs = filter-total F p q bs none in
-    elim (q b) as (λ x. q b ≡ x → total F (filter p (map share_of (cond x (b ∷ filter q bs) (filter q bs)))) ≡ G b +ℤ total G bs) [
-      | true ↦ (λ e. elim (p (share_of b)) as (λ y. total F (cond y (share_of b ∷ rest) rest) ≡ cond y (F (share_of b)) (pos 0) +ℤ total G bs) [
-        | true ↦ ap (λ (z : ℤ). F (share_of b) +ℤ z) later
+    elim (q b) as (λ x. q b ≡ x → total F (filter p (map continuation_of (cond x (b ∷ filter q bs) (filter q bs)))) ≡ G b +ℤ total G bs) [
+      | true ↦ (λ e. elim (p (continuation_of b)) as (λ y. total F (cond y (continuation_of b ∷ rest) rest) ≡ cond y (F (continuation_of b)) (pos 0) +ℤ total G bs) [
+        | true ↦ ap (λ (z : ℤ). F (continuation_of b) +ℤ z) later
         | false ↦ zero-plus (pos 0) _ _ refl later
       ])
       | false ↦ (λ e. zero-plus (G b) _ _ (none b e) later)
@@ -76,10 +76,10 @@ no-weight z false b e = refl
 
 -- what the shares after an own action and an observation count for: each mass times what its corner counts for
 pub counted-corners : (g : GameData) (belief : List ℤ) (value : ℤ) (mixes : MixesData) (a o : ℕ) (z : ℕ → ℤ) → a < g.shape.own_actions → o < g.shape.observations →
-    total (λ share. pos share.weight *ℤ z share.point) (shares_at (point_of (corner_split g belief value mixes)) a o)
+    total (λ share. pos share.weight *ℤ z share.member) (shares_at (point_of (corner_split g belief value mixes)) a o)
     ≡ total (λ t. pos (mass_at g belief mixes a o t) *ℤ z t) (below g.shape.states)
 counted-corners g belief value mixes a o z la lo =
-    filter-total (λ share. pos share.weight *ℤ z share.point) (λ share. (share.own == a) && (share.seen == o)) has_weight
+    filter-total (λ share. pos share.weight *ℤ z share.member) (λ share. (share.own == a) && (share.seen == o)) has_weight
     (all_shares (mass_at g belief mixes) g.shape.own_actions g.shape.observations g.shape.states)
     (λ b e. no-weight z ((b.own == a) && (b.seen == o)) b e)
     ∙ counted-all (mass_at g belief mixes) g.shape.own_actions g.shape.observations g.shape.states a o z la lo
@@ -94,7 +94,7 @@ pub corner-splits : (g : GameData) (values : ℕ → ℤ) (points : ℕ → Poin
     a < g.shape.own_actions → o < g.shape.observations → t < g.shape.states → SplitHolds (numbers g) points (point_of (corner_split g belief value mixes)) a o t
 corner-splits g values points corners belief value mixes a o t la lo lt =
     ap unsigned_abs
-    (sym (total-pos (λ (share : Share). share.weight * (points share.point).belief t) (shares_at (point_of (corner_split g belief value mixes)) a o))
+    (sym (total-pos (λ (share : Continuation). share.weight * (points share.member).belief t) (shares_at (point_of (corner_split g belief value mixes)) a o))
     ∙ counted-corners g belief value mixes a o (λ k. pos ((points k).belief t)) la lo
     ∙ total-below g.shape.states _ (λ k. pos (cond (k == t) 1 0) *ℤ pos (mass_at g belief mixes a o k)) (λ k lk.
     ap (λ (n : ℕ). pos (mass_at g belief mixes a o k) *ℤ pos n) (corners.belief k t lk lt ∙ ap (λ (b : Bool). cond b 1 0) (turn t k))

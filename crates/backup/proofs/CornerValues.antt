@@ -32,18 +32,19 @@ later-is g point a y =
     turn : (b w y : ℤ) → (b *ℤ w) *ℤ y ≡ b *ℤ (w *ℤ y)
     turn b w y = simp products (omega (arith, sums))
 
--- where the shares are worth what their masses are worth at these values, a point is worth what the stages are
--- from the states and actions that it mixes
-pub worth-is : (g : Numbers) (points : ℕ → Point) (y : ℕ → ℤ) (point : Point) (a : ℕ) →
-    ((o : ℕ) → o < g.observations → total (λ share. pos share.weight *ℤ (points share.point).value) (shares_at point a o) ≡ total (λ t. pos (mass g point a o t) *ℤ y t) (below g.states)) →
-    point_worth g points point a ≡ total (λ s. total (λ c. pos (point.belief s * point.mixes s c) *ℤ stage_worth g a y s c) (below g.informed_actions)) (below g.states)
-worth-is g points y point a h =
+-- what one stage pays at once, and what the masses are worth later, are what the stages are worth from the states and
+-- actions that a point mixes
+pub stages-are : (g : Numbers) (point : Point) (a : ℕ) (y : ℕ → ℤ) →
+    total (λ s. total (λ c. pos (point.belief s * point.mixes s c) *ℤ g.reward s a c *ℤ pos (unit * g.row_total * g.discount_under)) (below g.informed_actions)) (below g.states)
+    +ℤ pos g.discount_over *ℤ total (λ o. total (λ t. pos (mass g point a o t) *ℤ y t) (below g.states)) (below g.observations)
+    ≡ total (λ s. total (λ c. pos (point.belief s * point.mixes s c) *ℤ stage_worth g a y s c) (below g.informed_actions)) (below g.states)
+stages-are g point a y =
     let K : ℕ = unit * g.row_total * g.discount_under in
     let P : ℤ = pos g.discount_over in
     let b : ℕ → ℕ → ℤ = λ s c. pos (point.belief s * point.mixes s c) in
     let rest : ℕ → ℕ → ℤ = λ s c. over_row g s a c (λ o t. y t) in
     let now : ℤ = total (λ s. total (λ c. b s c *ℤ g.reward s a c *ℤ pos K) (below g.informed_actions)) (below g.states) in
-    ap (λ (z : ℤ). now +ℤ P *ℤ z) (total-below g.observations _ _ h ∙ later-is g point a y)
+    ap (λ (z : ℤ). now +ℤ P *ℤ z) (later-is g point a y)
     ∙ ap (λ (z : ℤ). now +ℤ z) (
     sym (total-scale P (λ s. total (λ c. b s c *ℤ rest s c) (below g.informed_actions)) (below g.states))
     ∙ total-below g.states _ _ (λ s ls. sym (total-scale P (λ c. b s c *ℤ rest s c) (below g.informed_actions))))
@@ -54,6 +55,16 @@ worth-is g points y point a h =
   where
     joined : (b r e d q p x : ℤ) → b *ℤ r *ℤ ((e *ℤ d) *ℤ q) +ℤ p *ℤ (b *ℤ x) ≡ b *ℤ (e *ℤ r *ℤ (d *ℤ q) +ℤ p *ℤ x)
     joined b r e d q p x = simp products (omega (arith, sums))
+
+-- where the shares are worth what their masses are worth at these values, a point is worth what the stages are
+-- from the states and actions that it mixes
+pub worth-is : (g : Numbers) (points : ℕ → Point) (y : ℕ → ℤ) (point : Point) (a : ℕ) →
+    ((o : ℕ) → o < g.observations → total (λ share. pos share.weight *ℤ (points share.member).value) (shares_at point a o) ≡ total (λ t. pos (mass g point a o t) *ℤ y t) (below g.states)) →
+    point_worth g points point a ≡ total (λ s. total (λ c. pos (point.belief s * point.mixes s c) *ℤ stage_worth g a y s c) (below g.informed_actions)) (below g.states)
+worth-is g points y point a h =
+    ap (λ (z : ℤ). total (λ s. total (λ c. pos (point.belief s * point.mixes s c) *ℤ g.reward s a c *ℤ pos (unit * g.row_total * g.discount_under)) (below g.informed_actions)) (below g.states) +ℤ pos g.discount_over *ℤ z)
+    (total-below g.observations _ _ h)
+    ∙ stages-are g point a y
 
 -- the same for a point that is split into corners
 pub corner-worth : (g : GameData) (values : ℕ → ℤ) (points : ℕ → Point) → BeginWithCorners g values points → (belief : List ℤ) (value : ℤ) (mixes : MixesData) (a : ℕ) → a < g.shape.own_actions →

@@ -14,3 +14,14 @@ pub mod AlwaysSets
 pub mod ShareLists
 pub mod Evaluations
 pub mod OneSeeds
+pub mod PointShares
+pub mod SplitWorths
+pub mod Standing
+pub mod NewPoints
+pub mod NodeWorths
+pub mod NewNodes
+pub mod Tried
+pub mod LowerRuns
+pub mod OneLowerVisits
+pub mod UpperRuns
+pub mod OneUpperVisits

@@ -1,5 +1,5 @@
 -- The value of a point that is split into corners lies within the span, and by it the point stands.
-use Rattle.std.proofs.Common.{◌≡◌, ℕ, ◌*◌, ◌<◌, ◌≤◌, ap, arith, subst, ◌∙◌}
+use Rattle.std.proofs.Common.{◌≡◌, ℕ, ◌*◌, ◌<◌, ◌≤◌, ap, arith, subst, sym, ◌∙◌}
 use Rattle.std.specs.Prelude.{ℤ, pos, neg_ℤ, ◌*ℤ◌, ◌≤ℤ◌, sum_by}
 use Rattle.std.proofs.lemmas.Int.{ints}
 use Rattle.scaled_num.specs.Sums.{below, total}
@@ -56,23 +56,20 @@ stage-between g span keeps values inside a s c la ls lc =
     )
 
 -- so the evaluation lies within the span, times the belief's total
-pub evaluation-within : (g : Numbers) (span : ℕ) → KeepsCorners g span → (values : ℕ → ℤ) → ((s : ℕ) → s < g.states → ((neg_ℤ (pos span)) ≤ℤ (values s)) × ((values s) ≤ℤ (pos span))) →
-    (points : ℕ → Point) (point : Point) → AreFull g point →
-    ((a : ℕ) → a < g.own_actions → point_worth g points point a ≡ total (λ s. total (λ c. pos (point.belief s * point.mixes s c) *ℤ stage_worth g a values s c) (below g.informed_actions)) (below g.states)) →
+pub evaluation-between : (g : Numbers) (span : ℕ) → KeepsCorners g span → (points : ℕ → Point) (point : Point) →
+    ((a : ℕ) → a < g.own_actions → ((pos (sum_by point.belief (below g.states)) *ℤ (pos mix_total *ℤ ((neg_ℤ (pos span)) *ℤ pos (g.row_total * g.discount_under)))) ≤ℤ point_worth g points point a)
+    × (point_worth g points point a ≤ℤ (pos (sum_by point.belief (below g.states)) *ℤ (pos mix_total *ℤ (pos span *ℤ pos (g.row_total * g.discount_under)))))) →
     (x : ℤ) → IsEvaluation g points point x →
     ((neg_ℤ (pos span *ℤ pos (sum_by point.belief (below g.states)))) ≤ℤ x) × (x ≤ℤ (pos span *ℤ pos (sum_by point.belief (below g.states))))
-evaluation-within g span keeps values inside points point full worth x is =
+evaluation-between g span keeps points point worth x is =
     let K : ℕ = mix_total * g.row_total * g.discount_under in
     let B : ℕ = sum_by point.belief (below g.states) in
-    let k : ℕ = g.row_total * g.discount_under in
-    let both = λ (a : ℕ) (la : a < g.own_actions). total-within g point full (λ s c. stage_worth g a values s c) ((neg_ℤ (pos span)) *ℤ pos k) (pos span *ℤ pos k)
-    (λ s c ls lc. stage-between g span keeps.keeps values inside a s c la ls lc) in
     let a = is.some.0 in
     let la = is.some.1 in (
       le-cancel K (neg_ℤ (pos span *ℤ pos B)) x (scale-some g.row_total g.discount_under (divisor-some g span keeps.keeps))
-          (lower _ _ _ _ _ (turn (pos B) (pos mix_total) (neg_ℤ (pos span)) (pos g.row_total) (pos g.discount_under) ∙ ap (λ (z : ℤ). z *ℤ pos K) (negated span B)) (both 0 keeps.own).0 (worth 0 keeps.own) (is.each 0 keeps.own)),
+          (lower _ _ _ _ (turn (pos B) (pos mix_total) (neg_ℤ (pos span)) (pos g.row_total) (pos g.discount_under) ∙ ap (λ (z : ℤ). z *ℤ pos K) (negated span B)) (worth 0 keeps.own).0 (is.each 0 keeps.own)),
       ceil-le K x (pos span *ℤ pos B) (point_worth g points point a) (point_worth g points point a) is.some.2 (same (point_worth g points point a))
-          (upper _ _ _ _ (turn (pos B) (pos mix_total) (pos span) (pos g.row_total) (pos g.discount_under)) (both a la).1 (worth a la)),
+          (upper _ _ _ (turn (pos B) (pos mix_total) (pos span) (pos g.row_total) (pos g.discount_under)) (worth a la).1),
     )
   where
     same : (x : ℤ) → x ≤ℤ x
@@ -87,8 +84,22 @@ evaluation-within g span keeps values inside points point full worth x is =
     negated : (v b : ℕ) → neg_ℤ (pos v) *ℤ pos b ≡ neg_ℤ (pos v *ℤ pos b)
     negated v b = neg-mul v b
 
-    lower : (x y z w v : ℤ) → x ≡ v → x ≤ℤ y → z ≡ y → z ≤ℤ w → v ≤ℤ w
-    lower x y z w v e h f k = omega (arith, ints)
+    lower : (x y w v : ℤ) → x ≡ v → x ≤ℤ y → y ≤ℤ w → v ≤ℤ w
+    lower x y w v e h k = omega (arith, ints)
 
-    upper : (x y z w : ℤ) → x ≡ w → y ≤ℤ x → z ≡ y → z ≤ℤ w
-    upper x y z w e h f = omega (arith, ints)
+    upper : (x y w : ℤ) → x ≡ w → y ≤ℤ x → y ≤ℤ w
+    upper x y w e h = omega (arith, ints)
+
+-- the same where the stages are worth what values within the span make of them
+pub evaluation-within : (g : Numbers) (span : ℕ) → KeepsCorners g span → (values : ℕ → ℤ) → ((s : ℕ) → s < g.states → ((neg_ℤ (pos span)) ≤ℤ (values s)) × ((values s) ≤ℤ (pos span))) →
+    (points : ℕ → Point) (point : Point) → AreFull g point →
+    ((a : ℕ) → a < g.own_actions → point_worth g points point a ≡ total (λ s. total (λ c. pos (point.belief s * point.mixes s c) *ℤ stage_worth g a values s c) (below g.informed_actions)) (below g.states)) →
+    (x : ℤ) → IsEvaluation g points point x →
+    ((neg_ℤ (pos span *ℤ pos (sum_by point.belief (below g.states)))) ≤ℤ x) × (x ≤ℤ (pos span *ℤ pos (sum_by point.belief (below g.states))))
+evaluation-within g span keeps values inside points point full worth x is =
+    let k : ℕ = g.row_total * g.discount_under in
+    evaluation-between g span keeps points point (λ a la.
+    let both = total-within g point full (λ s c. stage_worth g a values s c) ((neg_ℤ (pos span)) *ℤ pos k) (pos span *ℤ pos k) (λ s c ls lc. stage-between g span keeps.keeps values inside a s c la ls lc) in (
+      subst (λ (z : ℤ). (pos (sum_by point.belief (below g.states)) *ℤ (pos mix_total *ℤ ((neg_ℤ (pos span)) *ℤ pos k))) ≤ℤ z) (sym (worth a la)) both.0,
+      subst (λ (z : ℤ). z ≤ℤ (pos (sum_by point.belief (below g.states)) *ℤ (pos mix_total *ℤ (pos span *ℤ pos k)))) (sym (worth a la)) both.1,
+    )) x is

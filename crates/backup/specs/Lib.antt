@@ -3,3 +3,14 @@ pub mod Rounds
 pub mod Steps
 pub mod Shares
 pub mod Laws
+pub mod Evaluation
+pub mod NewPoints
+pub mod Entries
+pub mod Standing
+pub mod Tries
+pub mod LowerVisits
+pub mod LowerRuns
+pub mod LowerLaws
+pub mod UpperVisits
+pub mod UpperRuns
+pub mod UpperLaws

@@ -48,7 +48,8 @@ fn round(game: &Game, old: &[i128], new: &mut [i128], replies: &mut [u32])
     requires bounded { IsBounded game.now old.now }
     requires states { length new.old ≡ game.now.shape.states }
     requires replies { length replies.old ≡ game.now.shape.states }
-    ensures replied { (s : ℕ) → s < game.now.shape.states → IsReply (numbers game.now) (at old.now) s (slice_index_or replies.new s 0) (at new.new s) }
+    ensures replied { (s : ℕ) → s < game.now.shape.states →
+        IsReply (numbers game.now) (at old.now) s (slice_index_or replies.new s 0) (at new.new s) }
     ensures bounded { IsBounded game.now new.new }
 {
     law_game(game);
@@ -99,7 +100,8 @@ fn greatest_worth(game: &Game, s: u32, c: u32, old: &[i128]) -> i128
     requires state { s < game.now.shape.states }
     requires informed { c < game.now.shape.informed_actions }
     requires bounded { IsBounded game.now old.now }
-    ensures greatest { IsGreatestOf (λ a. stage_worth (numbers game.now) a (at old.now) s c) game.now.shape.own_actions result }
+    ensures greatest { IsGreatestOf (λ a. stage_worth (numbers game.now) a (at old.now) s c)
+        game.now.shape.own_actions result }
     ensures bounded { IsWorthWithin game.now result }
 {
     law_game(game);

@@ -1,11 +1,11 @@
+ghost use Rattle.backup.specs.Standing.{NodesStand};
 ghost use Rattle.game_model.specs.Branches.{branch_of};
 ghost use Rattle.alpha_set.specs.Members.{most_nodes, node_data};
-ghost use Rattle.alpha_set.specs.Nodes.{NodeFits, NodeStands, nodes_of};
+ghost use Rattle.alpha_set.specs.Nodes.{NodeFits};
 ghost use Rattle.backup.specs.Seeds.{AreSeedNodes, IsSeedNode, pure_mix};
 ghost use Rattle.backup.specs.Steps.{IsSeedVector, always_steps};
-ghost use Rattle.game_model.specs.Game.{numbers};
 ghost use Rattle.std.specs.List.{AllByRecursion};
-ghost use Rattle.std.specs.Prelude.{IfOk, OnOk, [], length, map, ℕ, ◌++◌, ◌<◌, ◌∷◌, ◌≡◌};
+ghost use Rattle.std.specs.Prelude.{IfOk, OnOk, [], length, map, ◌++◌, ◌<◌, ◌∷◌, ◌≡◌};
 
 use alpha_set::{Node, NodeSet, PushFault, Step};
 use game_model::{Game, MIX_TOTAL, law_game};
@@ -19,7 +19,7 @@ use std::alloc::{AllocError, Global};
 pub fn seed_nodes(alloc: Global, game: &Game) -> Result<NodeSet, AllocError>
     ensures nodes { IfOk result (λ set. AreSeedNodes game.now set.members) }
     ensures fit { IfOk result (λ set. AllByRecursion (NodeFits game.now (length set.members)) set.members) }
-    ensures stand { IfOk result (λ set. (i : ℕ) → i < length set.members → NodeStands (numbers game.now) (nodes_of set.members) (nodes_of set.members i)) }
+    ensures stand { IfOk result (λ set. NodesStand game.now set.members) }
 {
     law_game(game);
     let mut nodes = NodeSet::new(alloc, game);

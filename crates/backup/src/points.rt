@@ -1,15 +1,15 @@
+ghost use Rattle.backup.specs.Standing.{PointsStand};
 ghost use Rattle.backup.specs.Rounds.{AreSettled};
 ghost use Rattle.backup.specs.Seeds.{AreSeedPoints, IsEvaluation, IsRootPoint, corner_points, corner_split};
 ghost use Rattle.backup.specs.Shares.{AreCorners, AreSeeds, IsSplitAmong};
 ghost use Rattle.backup.specs.Rounds.{IsGreatestOf};
-ghost use Rattle.belief.specs.Beliefs.{corner_of};
 ghost use Rattle.belief.specs.Mixes.{pure_mixes};
 ghost use Rattle.game_model.specs.Game.{numbers};
 ghost use Rattle.point_set.specs.Members.{most_points, point_data};
-ghost use Rattle.point_set.specs.Points.{PointFits, PointStands, point_of, point_worth, points_of};
+ghost use Rattle.point_set.specs.Points.{PointFits, point_of, point_worth, points_of};
 ghost use Rattle.scaled_num.specs.Share.{at};
 ghost use Rattle.std.specs.List.{AllByRecursion};
-ghost use Rattle.std.specs.Prelude.{IfOk, OnOk, [], length, ℕ, ◌++◌, ◌<◌, ◌∷◌, ◌≡◌};
+ghost use Rattle.std.specs.Prelude.{IfOk, OnOk, [], length, ◌++◌, ◌<◌, ◌∷◌, ◌≡◌};
 
 use crate::corners::settle_corners;
 use crate::shares::split_into_corners;
@@ -27,7 +27,7 @@ use std::alloc::{AllocError, Global};
 pub fn seed_points(alloc: Global, game: &Game) -> Result<PointSet, AllocError>
     ensures points { IfOk result (λ set. AreSeedPoints game.now set.members) }
     ensures fit { IfOk result (λ set. AllByRecursion (PointFits game.now (length set.members)) set.members) }
-    ensures stand { IfOk result (λ set. (j : ℕ) → j < length set.members → PointStands (numbers game.now) (points_of set.members) (points_of set.members j)) }
+    ensures stand { IfOk result (λ set. PointsStand game.now set.members) }
 {
     law_game(game);
     let mut values = [0; MOST_STATES];
@@ -87,7 +87,8 @@ fn root_point(
     corners: &PointSet,
 ) -> Result<Point, AllocError>
     requires { AreCorners game.now replies.now corners.now.members }
-    ensures { IfOk result (λ point. IsRootPoint game.now corners.now.members (pure_mixes game.now replies.now) (point_data point)) }
+    ensures { IfOk result (λ point. IsRootPoint game.now corners.now.members (pure_mixes game.now replies.now)
+        (point_data point)) }
 {
     law_game(game);
     let mut point = point_at(alloc, game, Belief::first_of(game), 0, replies)?;
@@ -106,7 +107,8 @@ fn point_at(
     requires belief { length belief ≡ game.now.shape.states }
     requires states { length replies.now ≡ game.now.shape.states }
     requires actions { AllByRecursion (λ c. c < game.now.shape.informed_actions) replies.now }
-    ensures { IfOk result (λ point. point_data point ≡ corner_split game.now belief value (pure_mixes game.now replies.now)) }
+    ensures { IfOk result (λ point. point_data point
+        ≡ corner_split game.now belief value (pure_mixes game.now replies.now)) }
 {
     let mixes = Mixes::pure(alloc, game, replies)?;
     let splits = split_into_corners(alloc, game, &belief, &mixes)?;
@@ -131,7 +133,7 @@ fn add(points: &mut PointSet, point: Point) -> Result<(), AllocError>
 }
 
 /// What a point must be worth among the points of a set, rounded up.
-fn evaluation(game: &Game, points: &PointSet, point: &Point) -> i128
+pub fn evaluation(game: &Game, points: &PointSet, point: &Point) -> i128
     requires { IsSplitAmong game.now points.now.members (point_data point.now) }
     ensures { IsEvaluation (numbers game.now) (points_of points.now.members) (point_of (point_data point.now)) result }
 {
@@ -144,7 +146,8 @@ fn evaluation(game: &Game, points: &PointSet, point: &Point) -> i128
 /// The most that one stage costs a point over the own actions, before the division.
 fn greatest_worth(game: &Game, points: &PointSet, point: &Point) -> i128
     requires { IsSplitAmong game.now points.now.members (point_data point.now) }
-    ensures { IsGreatestOf (point_worth (numbers game.now) (points_of points.now.members) (point_of (point_data point.now))) game.now.shape.own_actions result }
+    ensures { IsGreatestOf (point_worth (numbers game.now) (points_of points.now.members)
+        (point_of (point_data point.now))) game.now.shape.own_actions result }
 {
     law_game(game);
     let mut most = points.stage_worth(game, point, 0);

@@ -1,9 +1,12 @@
-ghost use Rattle.alpha_set.specs.Nodes.{NodeFits, NodeStands, nodes_of};
+//! The seeds of a search: the nodes and the points that it begins with.
+
+ghost use Rattle.backup.specs.Standing.{NodesStand, PointsStand};
+ghost use Rattle.alpha_set.specs.Nodes.{NodeFits};
 ghost use Rattle.backup.specs.Seeds.{AreSeedNodes, AreSeedPoints};
-ghost use Rattle.game_model.specs.Game.{numbers, span};
-ghost use Rattle.point_set.specs.Points.{PointFits, PointStands, points_of};
+ghost use Rattle.game_model.specs.Game.{span};
+ghost use Rattle.point_set.specs.Points.{PointFits};
 ghost use Rattle.std.specs.List.{AllByRecursion};
-ghost use Rattle.std.specs.Prelude.{IfOk, length, ℕ, ◌<◌};
+ghost use Rattle.std.specs.Prelude.{IfOk, length, ◌<◌};
 
 use crate::nodes::seed_nodes;
 use crate::points::seed_points;
@@ -23,10 +26,12 @@ use std::alloc::{AllocError, Global};
 pub fn seed(alloc: Global, game: &Game) -> Result<(NodeSet, PointSet), AllocError>
     ensures nodes { IfOk result (λ sets. AreSeedNodes game.now sets.0.members) }
     ensures points { IfOk result (λ sets. AreSeedPoints game.now sets.1.members) }
-    ensures nodes_fit { IfOk result (λ sets. AllByRecursion (NodeFits game.now (length sets.0.members)) sets.0.members) }
-    ensures nodes_stand { IfOk result (λ sets. (i : ℕ) → i < length sets.0.members → NodeStands (numbers game.now) (nodes_of sets.0.members) (nodes_of sets.0.members i)) }
-    ensures points_fit { IfOk result (λ sets. AllByRecursion (PointFits game.now (length sets.1.members)) sets.1.members) }
-    ensures points_stand { IfOk result (λ sets. (j : ℕ) → j < length sets.1.members → PointStands (numbers game.now) (points_of sets.1.members) (points_of sets.1.members j)) }
+    ensures nodes_fit { IfOk result (λ sets. AllByRecursion (NodeFits game.now (length sets.0.members))
+        sets.0.members) }
+    ensures nodes_stand { IfOk result (λ sets. NodesStand game.now sets.0.members) }
+    ensures points_fit { IfOk result (λ sets. AllByRecursion (PointFits game.now (length sets.1.members))
+        sets.1.members) }
+    ensures points_stand { IfOk result (λ sets. PointsStand game.now sets.1.members) }
 {
     let nodes = seed_nodes(alloc, game)?;
     let points = seed_points(alloc, game)?;

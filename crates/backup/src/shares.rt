@@ -41,7 +41,9 @@ fn add_after(
 ) -> Result<(), AllocError>
     requires over { AreOver game.now belief.now mixes.now }
     requires own { a < game.now.shape.own_actions }
-    ensures { OnOk result (map branch_of shares.new.items ≡ map branch_of shares.old.items ++ filter has_weight (own_shares game.now belief.now mixes.now a game.now.shape.observations)) }
+    ensures { OnOk result (map branch_of shares.new.items
+        ≡ map branch_of shares.old.items ++ filter has_weight
+        (own_shares game.now belief.now mixes.now a game.now.shape.observations)) }
 {
     for o in 0..game.observations() {
         add_seen(game, belief, mixes, a, o, shares)?;
@@ -61,7 +63,8 @@ fn add_seen(
     requires over { AreOver game.now belief.now mixes.now }
     requires own { a < game.now.shape.own_actions }
     requires seen { o < game.now.shape.observations }
-    ensures { OnOk result (map branch_of shares.new.items ≡ map branch_of shares.old.items ++ filter has_weight (seen_shares game.now belief.now mixes.now a o)) }
+    ensures { OnOk result (map branch_of shares.new.items
+        ≡ map branch_of shares.old.items ++ filter has_weight (seen_shares game.now belief.now mixes.now a o)) }
 {
     law_game(game);
     let mut masses = [0; MOST_STATES];
@@ -73,7 +76,9 @@ fn add_seen(
 /// Adds a share for each mass that is not zero.
 fn add_row(masses: &[i128], a: u32, o: u32, shares: &mut Vec<Share>) -> Result<(), AllocError>
     requires { length masses.now ≤ most_states }
-    ensures { OnOk result (map branch_of shares.new.items ≡ map branch_of shares.old.items ++ filter has_weight (row_shares (at masses.now) a o (length masses.now))) }
+    ensures { OnOk result (map branch_of shares.new.items
+        ≡ map branch_of shares.old.items ++ filter has_weight
+        (row_shares (at masses.now) a o (length masses.now))) }
 {
     for (t, weight) in masses.iter().enumerate() {
         let weighs = *weight != 0;

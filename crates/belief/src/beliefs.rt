@@ -21,13 +21,14 @@ pub struct Belief {
 
 impl Model for Belief {
     ghost use Rattle.belief.specs.Beliefs.{AreParts};
+    ghost use Rattle.game_model.specs.Limits.{most_states};
     ghost use Rattle.std.specs.Prelude.{List, take, ℤ, ◌≤◌};
 
     ghost Value = { List ℤ };
 
     ghost view = { λ b. take b.states b.weights };
 
-    ghost invariant = { λ b. (b.states ≤ 16) × AreParts (take b.states b.weights) };
+    ghost invariant = { λ b. (b.states ≤ most_states) × AreParts (take b.states b.weights) };
 }
 
 impl Belief {

@@ -1,6 +1,6 @@
 //! The mass that a belief and mixes bring on.
 
-ghost use Rattle.game_model.specs.Limits.{most_belief};
+ghost use Rattle.game_model.specs.Limits.{most_belief, most_mass};
 ghost use Rattle.belief.specs.After.{mass_after};
 ghost use Rattle.belief.specs.Beliefs.{mix_weight, weight_at};
 ghost use Rattle.belief.specs.Masses.{AreBelow, AreLandings, IsSeen, from_state, landed};
@@ -24,7 +24,9 @@ pub fn mass(game: &Game, belief: &Belief, mixes: &Mixes, a: u32, o: u32, out: &m
     requires places { length out.old ≡ game.now.shape.states }
     ensures places { length out.new ≡ game.now.shape.states }
     ensures list { out.new ≡ mass_after game.now belief.now mixes.now a o }
-    ensures exact { (t : ℕ) → t < game.now.shape.states → slice_index_or out.new t (pos 0) ≡ pos (mass_of (numbers game.now) (weight_at belief.now) (mix_weight mixes.now) a o t) }
+    ensures exact { (t : ℕ) → t < game.now.shape.states →
+        slice_index_or out.new t (pos 0)
+        ≡ pos (mass_of (numbers game.now) (weight_at belief.now) (mix_weight mixes.now) a o t) }
 {
     law_game(game);
     out.fill(0);
@@ -43,7 +45,10 @@ fn add_state(game: &Game, mixes: &Mixes, s: u32, a: u32, o: u32, weight: i128, o
     requires weight { IsWithin (pos 0) (pos most_belief) weight }
     requires places { length out.old ≡ game.now.shape.states }
     requires room { AreBelow (pos (2 ^ 90)) out.old }
-    ensures { (t : ℕ) → t < length out.old → slice_index_or out.new t (pos 0) ≡ (slice_index_or out.old t (pos 0)) +ℤ pos (from_state game.now mixes.now (unsigned_abs weight) s a o t) }
+    ensures { (t : ℕ) → t < length out.old →
+        slice_index_or out.new t (pos 0)
+        ≡ (slice_index_or out.old t (pos 0))
+        +ℤ pos (from_state game.now mixes.now (unsigned_abs weight) s a o t) }
 {
     law_game(game);
     if weight == 0 {
@@ -58,9 +63,11 @@ fn add_state(game: &Game, mixes: &Mixes, s: u32, a: u32, o: u32, weight: i128, o
 fn add_row(row: &[Landing], o: u32, factor: i128, out: &mut [i128])
     requires rising { IsRising row.now }
     requires landings { AreLandings (length out.old) row.now }
-    requires factor { IsWithin (pos 0) (pos (2 ^ 36)) factor }
+    requires factor { IsWithin (pos 0) (pos most_mass) factor }
     requires room { AreBelow (pos (2 ^ 100)) out.old }
-    ensures { (t : ℕ) → t < length out.old → slice_index_or out.new t (pos 0) ≡ (slice_index_or out.old t (pos 0)) +ℤ pos (unsigned_abs factor * weight_in row.now o t) }
+    ensures { (t : ℕ) → t < length out.old →
+        slice_index_or out.new t (pos 0)
+        ≡ (slice_index_or out.old t (pos 0)) +ℤ pos (unsigned_abs factor * weight_in row.now o t) }
 {
     if factor == 0 {
         return;
@@ -82,9 +89,11 @@ fn seen_so(row: &[Landing], o: u32) -> &[Landing]
 /// Adds the weight of each landing times a factor to its next state.
 fn add_landings(landings: &[Landing], factor: i128, out: &mut [i128])
     requires landings { AreLandings (length out.old) landings.now }
-    requires factor { IsWithin (pos 0) (pos (2 ^ 36)) factor }
+    requires factor { IsWithin (pos 0) (pos most_mass) factor }
     requires room { AreBelow (pos (2 ^ 100)) out.old }
-    ensures { (t : ℕ) → t < length out.old → slice_index_or out.new t (pos 0) ≡ (slice_index_or out.old t (pos 0)) +ℤ pos (unsigned_abs factor * landed landings.now t) }
+    ensures { (t : ℕ) → t < length out.old →
+        slice_index_or out.new t (pos 0)
+        ≡ (slice_index_or out.old t (pos 0)) +ℤ pos (unsigned_abs factor * landed landings.now t) }
 {
     for landing in landings {
         out[landing.to as usize] += factor * landing.weight;

@@ -1,4 +1,5 @@
-pub mod First
 pub mod Order
 pub mod Fits
+pub mod Remainders
 pub mod Gap
+pub mod Decisions

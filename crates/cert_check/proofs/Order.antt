@@ -1,17 +1,21 @@
 -- The places of a certificate in their order: where members that fail first fail first among all places.
-use Rattle.std.proofs.Common.{ℕ, ◌<◌, cond, ◌==◌, inl, inr, List, [], ◌∷◌, ◌++◌, map, flat_map, refl, arith, subst, eq-eqb}
+use Rattle.std.proofs.Common.{◌≡◌, ℕ, ◌<◌, cond, ◌==◌, inl, inr, List, [], ◌∷◌, ◌++◌, map, flat_map, refl, arith, subst, ◌∙◌, eq-eqb}
 use Rattle.std.specs.List.{AllByRecursion}
 use Rattle.std.proofs.lemmas.Bool.Decides.{eqb_tells}
+use Rattle.std.proofs.lemmas.List.{map-append}
 use Rattle.scaled_num.specs.Sums.{below}
 use Rattle.scaled_num.proofs.Sums.{each-append}
 use Rattle.game_model.specs.Game.{GameData, numbers}
-use Rattle.alpha_set.specs.Faults.{NodeFailsFirst}
+use Rattle.alpha_set.specs.Faults.{NodeFailsFirst, rule_places, state_places}
 use Rattle.alpha_set.specs.Nodes.{NodeStands, nodes_of}
-use Rattle.point_set.specs.Faults.{SplitFailsFirst, ValueFailsFirst}
+use Rattle.point_set.specs.Faults as faults
+use Rattle.point_set.specs.Faults.{HoldsAt, point_places as fault_places, split_place, split_places_after, split_places_seen, value_place}
+use Rattle.point_set.specs.declared.stands.PointFault.{PointFault}
+use Rattle.point_set.specs.declared.stands.PointFault.TheVariants.{Split, Value}
 use Rattle.point_set.specs.Points.{PointStands, points_of}
-use Rattle.controller.specs.Certificates.{CertificateData, CornerAt, FailsFirst, Holds, NodeAt, Place, SplitAt, ValueAt, corner_places, places, split_places, value_places}
-use Rattle.cert_check.specs.Verdicts.{FirstIn}
-use Rattle.cert_check.proofs.First.{all-flat, all-map, first-flat, first-head, first-left, first-map, first-right}
+use Rattle.controller.specs.Certificates.{CertificateData, CornerAt, Holds, NodeAt, Place, SplitAt, ValueAt, corner_places, split_places, value_places}
+use Rattle.scaled_num.specs.First.{FirstIn}
+use Rattle.scaled_num.proofs.First.{all-flat, all-map, first-flat, first-head, first-mapped, first-same, flat-same, map-flat, map-map}
 
 -- the places of one node
 abbrev pub places_of_node : GameData → ℕ → List Place
@@ -22,11 +26,15 @@ node-stands g k i h =
     all-flat (Holds g k) (λ s. map (λ c. NodeAt i s c) (below g.shape.informed_actions)) g.shape.states (λ s ls.
     all-map (Holds g k) (λ c. NodeAt i s c) g.shape.informed_actions (λ c lc. h s c ls lc))
 
-pub node-fails : (g : GameData) (k : CertificateData) (i s c : ℕ) → NodeFailsFirst (numbers g) (nodes_of k.nodes) (nodes_of k.nodes i) s c → FirstIn (Holds g k) (places_of_node g i) (NodeAt i s c)
-node-fails g k i s c h =
-    first-flat (Holds g k) (λ s. map (λ c. NodeAt i s c) (below g.shape.informed_actions)) g.shape.states s (NodeAt i s c) h.state
-    (λ t lt. all-map (Holds g k) (λ d. NodeAt i t d) g.shape.informed_actions (λ d ld. h.before t d (omega (arith, h.state)) ld (inl lt)))
-    (first-map (Holds g k) (λ d. NodeAt i s d) g.shape.informed_actions c h.action (λ d ld. h.before s d h.state (omega (arith, h.action)) (inr (refl, ld))) h.fails)
+pub node-fails : (g : GameData) (k : CertificateData) (i : ℕ) (place : ℕ × ℕ) → NodeFailsFirst (numbers g) (nodes_of k.nodes) (nodes_of k.nodes i) place →
+    FirstIn (Holds g k) (places_of_node g i) (NodeAt i place.0 place.1)
+node-fails g k i place h =
+    let at : ℕ × ℕ → Place = λ place. NodeAt i place.0 place.1 in
+    subst (λ (ls : List Place). FirstIn (Holds g k) ls (at place))
+    (map-flat at (state_places (numbers g)) (below g.shape.states)
+    ∙ flat-same (λ s. map at (state_places (numbers g) s)) (λ s. map (λ c. NodeAt i s c) (below g.shape.informed_actions)) (below g.shape.states)
+    (λ s. map-map at (λ (c : ℕ). (s, c)) (below g.shape.informed_actions)))
+    (first-mapped (Holds g k) at (rule_places (numbers g)) place h)
 
 -- the corner of a point
 pub corner-none : (g : GameData) (k : CertificateData) (j : ℕ) → (j < g.shape.states → Holds g k (CornerAt j)) → AllByRecursion (Holds g k) (corner_places g j)
@@ -52,30 +60,32 @@ point-stands g k j h =
     all-map (Holds g k) (λ s. SplitAt j a o s) g.shape.states (λ s ls. h.split a o s la lo ls))))
     (all-map (Holds g k) (λ a. ValueAt j a) g.shape.own_actions (λ a la. h.value a la))
 
-pub split-fails : (g : GameData) (k : CertificateData) (j a o t : ℕ) → SplitFailsFirst (numbers g) (points_of k.points) (points_of k.points j) a o t →
-    FirstIn (Holds g k) (split_places g j ++ value_places g j) (SplitAt j a o t)
-split-fails g k j a o t h =
-    first-left (Holds g k) (split_places g j) (value_places g j) (SplitAt j a o t)
-    (first-flat (Holds g k) (λ a. flat_map (λ o. map (λ s. SplitAt j a o s) (below g.shape.states)) (below g.shape.observations)) g.shape.own_actions a (SplitAt j a o t) h.own
-    (λ b lb.
-    all-flat (Holds g k) (λ p. map (λ s. SplitAt j b p s) (below g.shape.states)) g.shape.observations (λ p lp.
-    all-map (Holds g k) (λ u. SplitAt j b p u) g.shape.states (λ u lu. h.before b p u (omega (arith, h.own)) lp lu (inl lb))))
-    (first-flat (Holds g k) (λ o. map (λ s. SplitAt j a o s) (below g.shape.states)) g.shape.observations o (SplitAt j a o t) h.seen
-    (λ p lp. all-map (Holds g k) (λ u. SplitAt j a p u) g.shape.states (λ u lu. h.before a p u h.own (omega (arith, h.seen)) lu (inr (refl, inl lp))))
-    (first-map (Holds g k) (λ u. SplitAt j a o u) g.shape.states t h.to (λ u lu. h.before a o u h.own h.seen (omega (arith, h.to)) (inr (refl, inr (refl, lu)))) h.fails)))
+-- the place of a certificate that a place of a point is
+abbrev pub at_point : ℕ → PointFault → Place
+at_point j (Split a o s) = SplitAt j a o s
+at_point j (Value a) = ValueAt j a
 
-pub value-fails : (g : GameData) (k : CertificateData) (j a : ℕ) → ValueFailsFirst (numbers g) (points_of k.points) (points_of k.points j) a →
-    FirstIn (Holds g k) (split_places g j ++ value_places g j) (ValueAt j a)
-value-fails g k j a h =
-    first-right (Holds g k) (split_places g j) (value_places g j) (ValueAt j a)
-    (all-flat (Holds g k) _ g.shape.own_actions (λ b lb.
-    all-flat (Holds g k) _ g.shape.observations (λ o lo.
-    all-map (Holds g k) (λ s. SplitAt j b o s) g.shape.states (λ s ls. h.splits b o s lb lo ls))))
-    (first-map (Holds g k) (λ b. ValueAt j b) g.shape.own_actions a h.own (λ b lb. h.before b lb) h.fails)
+places-are : (g : GameData) (j : ℕ) → map (at_point j) (fault_places (numbers g)) ≡ split_places g j ++ value_places g j
+places-are g j =
+    let splits : map (at_point j) (faults.split_places (numbers g)) ≡ split_places g j =
+    map-flat (at_point j) (split_places_after (numbers g)) (below g.shape.own_actions)
+    ∙ flat-same _ _ (below g.shape.own_actions) (λ a.
+    map-flat (at_point j) (split_places_seen (numbers g) a) (below g.shape.observations)
+    ∙ flat-same _ _ (below g.shape.observations) (λ o. map-map (at_point j) (λ (s : ℕ). split_place (a, o, s)) (below g.shape.states))) in
+    let values : map (at_point j) (faults.value_places (numbers g)) ≡ value_places g j = map-map (at_point j) value_place (below g.shape.own_actions) in
+    map-append (at_point j) (faults.split_places (numbers g)) (faults.value_places (numbers g)) ∙ cc
 
--- the first place at which a certificate fails
-pub first-in : (g : GameData) (k : CertificateData) (place : Place) → FailsFirst g k place → FirstIn (Holds g k) (places g k) place
-first-in g k place f = record { before = f.before; after = f.after; order = f.order; holds = f.holds; fails = f.fails }
+pub point-fails : (g : GameData) (k : CertificateData) (j : ℕ) (place : PointFault) → faults.FailsFirst (numbers g) (points_of k.points) (points_of k.points j) place →
+    FirstIn (Holds g k) (split_places g j ++ value_places g j) (at_point j place)
+point-fails g k j place h =
+    subst (λ (ls : List Place). FirstIn (Holds g k) ls (at_point j place)) (places-are g j)
+    (first-mapped (Holds g k) (at_point j) (fault_places (numbers g)) place
+    (first-same (HoldsAt (numbers g) (points_of k.points) (points_of k.points j)) (λ (place : PointFault). Holds g k (at_point j place)) (fault_places (numbers g)) place there back h))
+  where
+    there : (place : PointFault) → HoldsAt (numbers g) (points_of k.points) (points_of k.points j) place → Holds g k (at_point j place)
+    there (Split a o s) h = h
+    there (Value a) h = h
 
-pub fails-first : (g : GameData) (k : CertificateData) (place : Place) → FirstIn (Holds g k) (places g k) place → FailsFirst g k place
-fails-first g k place f = record { before = f.before; after = f.after; order = f.order; holds = f.holds; fails = f.fails }
+    back : (place : PointFault) → Holds g k (at_point j place) → HoldsAt (numbers g) (points_of k.points) (points_of k.points j) place
+    back (Split a o s) h = h
+    back (Value a) h = h

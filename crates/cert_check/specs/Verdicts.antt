@@ -1,8 +1,9 @@
 -- The verdict of the checker, and the place that its reason names.
-use Rattle.std.specs.Prelude.{List, ◌++◌, ◌∷◌, ◌≡◌}
+use Rattle.std.specs.Prelude.{List, ◌≡◌, ◌⊎◌}
 use Rattle.std.specs.List.{AllByRecursion}
+use Rattle.scaled_num.specs.First.{FirstIn}
 use Rattle.game_model.specs.Game.{GameData}
-use Rattle.controller.specs.Certificates.{BoundAt, CertificateData, CertificateStands, CornerAt, FailsFirst, Holds, NodeAt, OutcomeAt, Place, SplitAt, StartAt, ValueAt}
+use Rattle.controller.specs.Certificates.{BoundAt, CertificateData, CertificateFits, CertificateStands, CornerAt, FailsFirst, Holds, NodeAt, OutcomeAt, Place, SplitAt, StartAt, ValueAt}
 use Rattle.cert_check.specs.declared.verdicts.Reason.{Reason}
 use Rattle.cert_check.specs.declared.verdicts.Reason.TheVariants.{Bound, Corner, Node, Outcome, Split, Start, Value}
 
@@ -15,14 +16,6 @@ place_of (Value j a) = ValueAt j a
 place_of Start = StartAt
 place_of Bound = BoundAt
 place_of Outcome = OutcomeAt
-
--- in a list, a rule fails first at this element: it fails there, and holds at each element before it
-pub record FirstIn {X : Type 0} (Holds : X → Type 0) (list : List X) (x : X) : Type 0 where
-  pub before : List X
-  pub after : List X
-  pub order : list ≡ before ++ (x ∷ after)
-  pub holds : AllByRecursion Holds before
-  pub fails : ¬ (Holds x)
 
 -- of a certificate the rule of each of these places holds
 abbrev pub AllHold : GameData → CertificateData → List Place → Type 0
@@ -39,3 +32,7 @@ FailsOnce = (g : GameData) (k : CertificateData) (place other : Place) → Fails
 -- a certificate that fails first at a place does not stand
 abbrev pub FailingFalls : Type 0
 FailingFalls = (g : GameData) (k : CertificateData) (place : Place) → FailsFirst g k place → ¬ (CertificateStands g k)
+
+-- a certificate that fits stands, or fails first at a place
+abbrev pub StandsOrFails : Type 0
+StandsOrFails = (g : GameData) (k : CertificateData) → CertificateFits g k → CertificateStands g k ⊎ ((place : Place) × FailsFirst g k place)

@@ -1,16 +1,23 @@
 //! The last three tests of a certificate: its start, its bounds and its outcome.
 
+ghost use Rattle.cert_check.specs.Quotients.{most_under};
 ghost use Rattle.cert_check.specs.Verdicts.{AllHold, FailsAmong};
-ghost use Rattle.controller.specs.Certificates.{BoundAt, CertificateFits, Holds, IsFraction, IsWithinGap, OutcomeAt, StartAt, end_places, first_total, start_product};
+ghost use Rattle.controller.specs.Certificates.{BoundAt, CertificateFits, Holds, IsFraction, IsWithinGap, OutcomeAt, StartAt};
+ghost use Rattle.controller.specs.Certificates.{end_places, lower_scale, lower_sum, upper_scale, upper_sum};
 ghost use Rattle.controller.specs.Data.{fraction_data};
-ghost use Rattle.game_model.specs.Game.{unit};
-ghost use Rattle.point_set.specs.Points.{points_of};
+ghost use Rattle.controller.specs.Starts.{weighted};
+ghost use Rattle.game_model.specs.Game.{IsWithin};
+ghost use Rattle.point_set.specs.Corners.{point_at};
+ghost use Rattle.scaled_num.specs.Share.{at};
 ghost use Rattle.std.specs.Bool.{IsTrue};
-ghost use Rattle.std.specs.Prelude.{IfSome, IsNone, pos, ◌*◌, ◌↔◌, ◌≡◌};
+ghost use Rattle.std.specs.Prelude.{IfSome, IsNone, pos, ◌*ℤ◌, ◌<◌, ◌↔◌, ◌≡◌};
 
+use crate::quotients::{divided, is_at_most_sum};
 use crate::verdicts::Reason;
-use controller::{Certificate, Outcome};
-use game_model::{Game, UNITS, law_game};
+use controller::{
+    Certificate, Outcome, bound_scale, lower_bound, start_mass, sum_of_weights, tail, upper_bound,
+};
+use game_model::{Game, law_game};
 use scaled_num::Fraction;
 
 /// The first place at which the start, the bounds or the outcome fail.
@@ -31,68 +38,76 @@ pub fn first_end(game: &Game, certificate: &Certificate) -> Option<Reason>
     None
 }
 
-/// Whether the belief of the start point is the game's first belief.
+/// Whether in every state the start points bring the multiple of the first belief.
 fn starts_right(game: &Game, certificate: &Certificate) -> bool
     requires { CertificateFits game.now certificate.now }
     ensures { IsTrue result ↔ Holds game.now certificate.now StartAt }
 {
-    let start = certificate.points.point(certificate.start_point);
-    are_same(start.belief.parts(), game.first())
+    for s in 0..game.states() {
+        if !is_made_up(game, certificate, s) {
+            return false;
+        }
+    }
+    true
 }
 
-/// Whether two lists of weights are equal.
-fn are_same(weights: &[i128], others: &[i128]) -> bool
-    ensures { IsTrue result ↔ (weights.now ≡ others.now) }
+/// Whether the start points bring the multiple of the first belief to a state.
+fn is_made_up(game: &Game, certificate: &Certificate, s: u32) -> bool
+    requires fits { CertificateFits game.now certificate.now }
+    requires state { s < game.now.shape.states }
+    ensures { IsTrue result ↔ (weighted certificate.now.start_points (λ j. at (point_at certificate.now.points j).belief s) ≡ certificate.now.multiple *ℤ at game.now.first s) }
 {
-    weights == others
+    law_game(game);
+    let points = &certificate.points;
+    let brought = start_mass(game, points, &certificate.start_points, s);
+    brought == times(certificate.multiple, game.first()[s as usize])
+}
+
+/// The multiple of a weight of the first belief.
+fn times(multiple: i128, weight: i128) -> i128
+    requires multiple { IsWithin (pos 0) most_under multiple }
+    requires weight { IsWithin (pos 0) most_under weight }
+    ensures { result ≡ multiple *ℤ weight }
+{
+    multiple * weight
 }
 
 /// Whether the bounds and the tail are those of the starts and the span.
 fn bounds_are(game: &Game, certificate: &Certificate) -> bool
-    requires { CertificateFits game.now certificate.now }
+    requires fits { CertificateFits game.now certificate.now }
+    requires start { Holds game.now certificate.now StartAt }
     ensures { IsTrue result ↔ Holds game.now certificate.now BoundAt }
 {
-    let scale = bound_scale(game);
-    if !is_fraction(&certificate.lower, start_worth(game, certificate), scale) {
-        return false;
-    }
-    if !is_fraction(&certificate.upper, start_value(game, certificate), scale) {
-        return false;
-    }
-    is_fraction(&certificate.tail, game.span(), UNITS)
+    is_lower(game, certificate)
+        && is_upper(game, certificate)
+        && is_same(&certificate.tail, &tail(game))
 }
 
-/// The denominator of both bounds: the total of the first belief, times the units of a reward.
-fn bound_scale(game: &Game) -> i128
-    ensures { result ≡ pos (first_total game.now * unit) }
-{
-    law_game(game);
-    game.first_total() * UNITS
-}
-
-/// The value of the start point.
-fn start_value(game: &Game, certificate: &Certificate) -> i128
+/// Whether the lower bound is that of the start nodes.
+fn is_lower(game: &Game, certificate: &Certificate) -> bool
     requires { CertificateFits game.now certificate.now }
-    ensures { result ≡ (points_of certificate.now.points certificate.now.start_point).value }
+    ensures { IsTrue result ↔ IsFraction certificate.now.lower (lower_sum game.now certificate.now) (lower_scale game.now certificate.now) }
 {
-    certificate.points.point(certificate.start_point).value
+    let bound = lower_bound(game, &certificate.nodes, &certificate.start_nodes);
+    is_same(&certificate.lower, &bound)
 }
 
-/// Whether a fraction has this numerator and this denominator.
-fn is_fraction(fraction: &Fraction, num: i128, den: i128) -> bool
-    ensures { IsTrue result ↔ IsFraction (fraction_data fraction.now) num den }
+/// Whether the upper bound is that of the start points.
+fn is_upper(game: &Game, certificate: &Certificate) -> bool
+    requires fits { CertificateFits game.now certificate.now }
+    requires start { Holds game.now certificate.now StartAt }
+    ensures { IsTrue result ↔ IsFraction certificate.now.upper (upper_sum certificate.now) (upper_scale game.now certificate.now) }
 {
-    fraction.num == num && fraction.den == den
+    let starts = &certificate.start_points;
+    let bound = upper_bound(game, &certificate.points, starts, certificate.multiple);
+    is_same(&certificate.upper, &bound)
 }
 
-/// The product of the start node's vector with the first belief.
-fn start_worth(game: &Game, certificate: &Certificate) -> i128
-    requires { CertificateFits game.now certificate.now }
-    ensures { result ≡ start_product game.now certificate.now }
+/// Whether two fractions have the same numerator and the same denominator.
+fn is_same(fraction: &Fraction, other: &Fraction) -> bool
+    ensures { IsTrue result ↔ IsFraction (fraction_data fraction.now) other.now.num other.now.den }
 {
-    law_game(game);
-    let start = certificate.nodes.node(certificate.start_node);
-    game.first_product(&start.vector)
+    fraction.num == other.num && fraction.den == other.den
 }
 
 /// Whether the outcome says whether the gap is within the tolerance.
@@ -107,13 +122,15 @@ fn outcome_is(game: &Game, certificate: &Certificate) -> bool
     }
 }
 
-/// Whether upper less lower is at most the gap. Both bounds have the same denominator.
+/// Whether upper less lower is at most the gap, all over the total of the first belief and the units of a reward.
 fn is_closed(game: &Game, certificate: &Certificate) -> bool
     requires fits { CertificateFits game.now certificate.now }
     requires bounds { Holds game.now certificate.now BoundAt }
     ensures { IsTrue result ↔ IsWithinGap certificate.now }
 {
-    law_game(game);
-    let gap = &certificate.gap;
-    (certificate.upper.num - certificate.lower.num) * gap.den <= gap.num * certificate.lower.den
+    let from = sum_of_weights(&certificate.start_nodes);
+    let lower = divided(certificate.lower.num, from);
+    let upper = divided(certificate.upper.num, certificate.multiple);
+    let gap = divided(certificate.gap.num * bound_scale(game), certificate.gap.den);
+    is_at_most_sum(&upper, &lower, &gap)
 }

@@ -1,6 +1,6 @@
 //! The checker: all places of a certificate in their order.
 
-ghost use Rattle.cert_check.specs.Verdicts.{AllHold, FailsAmong, FailingFalls, FailsOnce, place_of};
+ghost use Rattle.cert_check.specs.Verdicts.{AllHold, FailingFalls, FailsAmong, FailsOnce, StandsOrFails, place_of};
 ghost use Rattle.cert_check.specs.declared.verdicts.Reason.{Reason};
 ghost use Rattle.controller.specs.Certificates.{CertificateFits, CertificateStands, FailsFirst, places};
 ghost use Rattle.std.specs.Prelude.{IfSome, IsNone, ◌↔◌, ◌≡◌};
@@ -17,7 +17,8 @@ use game_model::Game;
 pub fn check(game: &Game, certificate: &Certificate) -> Verdict
     requires { CertificateFits game.now certificate.now }
     ensures yes { (result ≡ Verdict.Yes) ↔ CertificateStands game.now certificate.now }
-    ensures no { (reason : Reason) → (result ≡ Verdict.No reason) ↔ FailsFirst game.now certificate.now (place_of reason) }
+    ensures no { (reason : Reason) → (result ≡ Verdict.No reason)
+        ↔ FailsFirst game.now certificate.now (place_of reason) }
 {
     match first_fault(game, certificate) {
         None => Verdict::Yes,
@@ -25,10 +26,12 @@ pub fn check(game: &Game, certificate: &Certificate) -> Verdict
     }
 }
 
-/// A law: a certificate fails first at one place only, and then it does not stand.
+/// A law: a certificate fails first at one place only, and then it does not stand; one that fits stands or fails first
+/// at a place.
 pub fn law_once()
     ensures once { FailsOnce }
     ensures falls { FailingFalls }
+    ensures decided { StandsOrFails }
 {}
 
 /// The first place at which a certificate fails.

@@ -4,6 +4,7 @@
 mod bounds;
 mod checker;
 mod members;
+mod quotients;
 mod verdicts;
 
 pub use checker::{check, law_once};

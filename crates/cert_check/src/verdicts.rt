@@ -35,7 +35,7 @@ pub enum Reason {
         /// The own action.
         a: u32,
     },
-    /// The belief of the start point is not the game's first belief.
+    /// The start points do not make up the multiple of the game's first belief.
     Start,
     /// The lower bound, the upper bound or the tail is another fraction than the starts and the span say.
     Bound,

@@ -1,4 +1,4 @@
--- A list that is f at each place.
+-- A list that is f at each index.
 use Rattle.std.proofs.Common.{◌≡◌, ℕ, suc, ◌+◌, ◌<◌, List, [], ◌∷◌, length, get_or, map, ℤ, pos, refl, ap, ◌∙◌, arith}
 use Rattle.std.specs.List.{range_with_len}
 use Rattle.scaled_num.specs.Sums.{below}

@@ -8,9 +8,9 @@ use Rattle.game_model.specs.Game.{GameData, IsGame}
 use Rattle.controller.specs.Certificates.{CertificateData}
 use Rattle.cert_text.specs.declared.fault.CertKind.{CertKind}
 use Rattle.cert_text.specs.declared.fault.CertKind.TheVariants as kinds
-use Rattle.cert_text.specs.declared.place.Latest.{Latest}
-use Rattle.cert_text.specs.declared.place.Latest.TheVariants as latest
-use Rattle.cert_text.specs.declared.place.Place.{Place}
+use Rattle.cert_text.specs.declared.progress.Latest.{Latest}
+use Rattle.cert_text.specs.declared.progress.Latest.TheVariants as latest
+use Rattle.cert_text.specs.declared.progress.Progress.{Progress}
 use Rattle.cert_text.specs.Answers.{IsTextFor}
 use Rattle.cert_text.specs.Made.{certificate_of}
 use Rattle.cert_text.specs.Entries.{Entry, End, entry_of, entry_after, behind, start_of}
@@ -21,7 +21,7 @@ use Rattle.cert_text.proofs.Reading.{reads_none, reads_more, line_at-said}
 use Rattle.cert_text.proofs.LawAccept.{say_long, lines_are_texts}
 use Rattle.cert_text.proofs.LawOnce.{ended_none}
 use Rattle.cert_text.proofs.OneForm.{same_entry}
-use Rattle.cert_text.proofs.Seen.{latest_in, place_in, place_next, place_behind, Kept, kept_first, kept_next}
+use Rattle.cert_text.proofs.Seen.{latest_in, progress_in, progress_next, progress_behind, Kept, kept_first, kept_next}
 use Rattle.cert_text.proofs.Judged.{Judged}
 use Rattle.cert_text.proofs.Found.{judge}
 
@@ -44,20 +44,20 @@ nothing_said : (entry : Entry) (r : Result Entry CertKind) → r ≡ Err kinds.T
 unfolding entry_read
 nothing_said entry r p q = cc
 
-said_open : (g : GameData) (before : List Entry) (line : Line) (entry : Entry) → entry_of (place_in g before) line ≡ entry_read entry → AreEnded before → ⊥
+said_open : (g : GameData) (before : List Entry) (line : Line) (entry : Entry) → entry_of (progress_in g before) line ≡ entry_read entry → AreEnded before → ⊥
 unfolding entry_after
-said_open g before line entry h ended = nothing_said entry (entry_after (place_in g before) latest.End line) refl (ap (λ (l : Latest). entry_after (place_in g before) l line) (sym (ended_to before ended)) ∙ h)
+said_open g before line entry h ended = nothing_said entry (entry_after (progress_in g before) latest.End line) refl (ap (λ (l : Latest). entry_after (progress_in g before) l line) (sym (ended_to before ended)) ∙ h)
 
 -- ---- lines that are said are passed, and the other way round
 
-say_passed : (g : GameData) (before : List Entry) (lines : List Line) (es : List Entry) → IsGame g → Kept g before → Say (place_in g before) lines es → ArePassed g before lines es
+say_passed : (g : GameData) (before : List Entry) (lines : List Line) (es : List Entry) → IsGame g → Kept g before → Say (progress_in g before) lines es → ArePassed g before lines es
 unfolding entry_read
 say_passed g before [] [] game k say = tt
 say_passed g before [] (e ∷ es) game k say = say
 say_passed g before (line ∷ lines) [] game k say = say
 say_passed g before (line ∷ lines) (e ∷ es) game k say = (
   subst (Judged g before line) (say.0) (judge g before line game k (said_open g before line e say.0)),
-  say_passed g (e ∷ before) lines es game (kept_next g before line e game k say.0) (subst (λ (p : Place). Say p lines es) (place_next g before e) say.1),
+  say_passed g (e ∷ before) lines es game (kept_next g before line e game k say.0) (subst (λ (p : Progress). Say p lines es) (progress_next g before e) say.1),
 )
 
 one_said : (g : GameData) (before : List Entry) (line : Line) (entry : Entry) (r : Result Entry CertKind) → Judged g before line r → IsPassed g before line entry → r ≡ entry_read entry
@@ -65,22 +65,22 @@ unfolding entry_read
 one_said g before line entry (Ok e) j p = ap entry_read (same_entry g before line e entry j.0 p.0)
 one_said g before line entry (Err kind) j p = absurd (p.1 kind j.0)
 
-passed_say : (g : GameData) (before : List Entry) (lines : List Line) (es : List Entry) → IsGame g → Kept g before → ArePassed g before lines es → Say (place_in g before) lines es
+passed_say : (g : GameData) (before : List Entry) (lines : List Line) (es : List Entry) → IsGame g → Kept g before → ArePassed g before lines es → Say (progress_in g before) lines es
 unfolding entry_read
 passed_say g before [] [] game k p = tt
 passed_say g before [] (e ∷ es) game k p = p
 passed_say g before (line ∷ lines) [] game k p = p
 passed_say g before (line ∷ lines) (e ∷ es) game k p =
     let going : AreEnded before → ⊥ = λ ended. ended_none g before p.0.0.0 ended p.0.0.3.0 in
-    let h = one_said g before line e (entry_of (place_in g before) line) (judge g before line game k going) p.0 in
-    (h, subst (λ (q : Place). Say q lines es) (sym (place_next g before e)) (passed_say g (e ∷ before) lines es game (kept_next g before line e game k h) p.1))
+    let h = one_said g before line e (entry_of (progress_in g before) line) (judge g before line game k going) p.0 in
+    (h, subst (λ (q : Progress). Say q lines es) (sym (progress_next g before e)) (passed_say g (e ∷ before) lines es game (kept_next g before line e game k h) p.1))
 
-kept_behind : (g : GameData) (before : List Entry) (lines : List Line) (es : List Entry) → IsGame g → Kept g before → Say (place_in g before) lines es → Kept g (onto before es)
+kept_behind : (g : GameData) (before : List Entry) (lines : List Line) (es : List Entry) → IsGame g → Kept g before → Say (progress_in g before) lines es → Kept g (onto before es)
 kept_behind g before [] [] game k say = k
 kept_behind g before [] (e ∷ es) game k say = absurd say
 kept_behind g before (line ∷ lines) [] game k say = absurd say
 kept_behind g before (line ∷ lines) (e ∷ es) game k say =
-    kept_behind g (e ∷ before) lines es game (kept_next g before line e game k say.0) (subst (λ (p : Place). Say p lines es) (place_next g before e) say.1)
+    kept_behind g (e ∷ before) lines es game (kept_next g before line e game k say.0) (subst (λ (p : Progress). Say p lines es) (progress_next g before e) say.1)
 
 reads_pass : (g : GameData) (lines : List Line) (es : List Entry) (rest : List Line) → IsGame g → Reads (start_of g) lines es rest → Passes g lines es rest
 reads_pass g lines es rest game r = (r.0, r.1, say_passed g [] r.0 es game (kept_first g) r.2)
@@ -89,7 +89,7 @@ passes_read : (g : GameData) (lines : List Line) (es : List Entry) (rest : List 
 passes_read g lines es rest game p = (p.0, p.1, passed_say g [] p.0 es game (kept_first g) p.2)
 
 latest_behind : (g : GameData) (es : List Entry) → (behind (start_of g) es).latest ≡ latest_in (onto [] es)
-latest_behind g es = ap (λ (p : Place). p.latest) (place_behind g [] es)
+latest_behind g es = ap (λ (p : Progress). p.latest) (progress_behind g [] es)
 
 pub accepts_from : (g : GameData) (bytes : List ℕ) (es : List Entry) → IsGame g → AcceptsAll g bytes es → AcceptsCert g bytes es
 accepts_from g bytes es game a =
@@ -109,15 +109,15 @@ unfolding line_with
 kind_of (Ok e) rest kind h = absurd cc
 kind_of (Err k) rest kind h = cc
 
-missing_kind : (g : GameData) (before : List Entry) (kind : CertKind) → line_at (place_in g before) [] ≡ Err kind → kind ≡ kinds.Missing
+missing_kind : (g : GameData) (before : List Entry) (kind : CertKind) → line_at (progress_in g before) [] ≡ Err kind → kind ≡ kinds.Missing
 unfolding line_at
 missing_kind g before kind h = cc
 
-line_kind : (g : GameData) (before : List Entry) (line : Line) (rest : List Line) (kind : CertKind) → line_at (place_in g before) (line ∷ rest) ≡ Err kind → entry_of (place_in g before) line ≡ Err kind
+line_kind : (g : GameData) (before : List Entry) (line : Line) (rest : List Line) (kind : CertKind) → line_at (progress_in g before) (line ∷ rest) ≡ Err kind → entry_of (progress_in g before) line ≡ Err kind
 unfolding line_at line_with
-line_kind g before line rest kind h = kind_of (entry_of (place_in g before) line) rest kind h
+line_kind g before line rest kind h = kind_of (entry_of (progress_in g before) line) rest kind h
 
-stop_refused : (g : GameData) (before : List Entry) (rest : List Line) (kind : CertKind) → IsGame g → Kept g before → (AreEnded before → ⊥) → line_at (place_in g before) rest ≡ Err kind → IsLineRefused g before rest kind
+stop_refused : (g : GameData) (before : List Entry) (rest : List Line) (kind : CertKind) → IsGame g → Kept g before → (AreEnded before → ⊥) → line_at (progress_in g before) rest ≡ Err kind → IsLineRefused g before rest kind
 stop_refused g before [] kind game k going h = missing_kind g before kind h
 stop_refused g before (line ∷ rest) kind game k going h = subst (Judged g before line) (line_kind g before line rest kind h) (judge g before line game k going)
 
@@ -125,17 +125,17 @@ pub refuses_from : (g : GameData) (bytes : List ℕ) (number : ℕ) (kind : Cert
 refuses_from g bytes number kind game (inl r) =
     let going : AreEnded (onto [] r.0) → ⊥ = λ ended. r.4 (latest_behind g r.0 ∙ ended_to (onto [] r.0) ended) in
     let kept = kept_behind g [] r.3.0 r.0 game (kept_first g) r.3.2 in
-    inl (r.0, r.1, r.2, reads_pass g (lines_of bytes) r.0 r.1 game r.3, going, stop_refused g (onto [] r.0) r.1 kind game kept going (subst (λ (p : Place). line_at p r.1 ≡ Err kind) (place_behind g [] r.0) r.5))
+    inl (r.0, r.1, r.2, reads_pass g (lines_of bytes) r.0 r.1 game r.3, going, stop_refused g (onto [] r.0) r.1 kind game kept going (subst (λ (p : Progress). line_at p r.1 ≡ Err kind) (progress_behind g [] r.0) r.5))
 refuses_from g bytes number kind game (inr r) =
     inr (r.0, r.1, reads_pass g (lines_of bytes) r.0 r.1 game r.2.0, ended_from (onto [] r.0) (sym (latest_behind g r.0) ∙ r.2.1), r.3, r.4, r.5)
 
 -- ---- each text is accepted or refused
 
-abbrev Accepted : Place → List Line → Type 0
-Accepted place lines = (entries : List Entry) × (rest : List Line) × Accepts place lines entries rest
+abbrev Accepted : Progress → List Line → Type 0
+Accepted progress lines = (entries : List Entry) × (rest : List Line) × Accepts progress lines entries rest
 
-abbrev Refused : Place → List Line → Type 0
-Refused place lines = (number : ℕ) × (kind : CertKind) × Refuses place lines number kind
+abbrev Refused : Progress → List Line → Type 0
+Refused progress lines = (number : ℕ) × (kind : CertKind) × Refuses progress lines number kind
 
 abbrev IsGoing : Latest → Type 0
 IsGoing latest.End = ⊥
@@ -148,32 +148,32 @@ ended_or_not : (l : Latest) → (l ≡ latest.End) ⊎ (l ≢ latest.End)
 ended_or_not latest.End = inl refl
 ended_or_not l = inr (not_ended l tt)
 
-no_line : (place : Place) → line_at place [] ≡ Err kinds.Missing
+no_line : (progress : Progress) → line_at progress [] ≡ Err kinds.Missing
 unfolding line_at
-no_line place = refl
+no_line progress = refl
 
-line_fails : (place : Place) (line : Line) (rest : List Line) (kind : CertKind) → entry_of place line ≡ Err kind → line_at place (line ∷ rest) ≡ Err kind
+line_fails : (progress : Progress) (line : Line) (rest : List Line) (kind : CertKind) → entry_of progress line ≡ Err kind → line_at progress (line ∷ rest) ≡ Err kind
 unfolding line_at
-line_fails place line rest kind e = rw e refl
+line_fails progress line rest kind e = rw e refl
 
-refused_at : (place : Place) (lines : List Line) (entries : List Entry) (rest : List Line) (kind : CertKind) → Reads place lines entries rest → IsUnfinished (behind place entries) → line_at (behind place entries) rest ≡ Err kind → Refused place lines
-refused_at place lines entries rest kind reads due e = (length entries + 1, kind, (entries, rest, refl, reads, due, e))
+refused_at : (progress : Progress) (lines : List Line) (entries : List Entry) (rest : List Line) (kind : CertKind) → Reads progress lines entries rest → IsUnfinished (behind progress entries) → line_at (behind progress entries) rest ≡ Err kind → Refused progress lines
+refused_at progress lines entries rest kind reads due e = (length entries + 1, kind, (entries, rest, refl, reads, due, e))
 
 -- the next line is refused, or the reading goes on
-goes : (place : Place) (lines : List Line) (line : Line) (rest : List Line) (entries : List Entry) → Reads place lines entries (line ∷ rest) → IsUnfinished (behind place entries)
-    → ((entry : Entry) → Reads place lines (entries ++ entry ∷ []) rest → Accepted place lines ⊎ Refused place lines) → (r : Result Entry CertKind) → entry_of (behind place entries) line ≡ r
-    → Accepted place lines ⊎ Refused place lines
-goes place lines line rest entries reads due next (Ok entry) e = next entry (reads_more place lines entries (line ∷ rest) rest entry reads (line_at-said (behind place entries) line rest entry e))
-goes place lines line rest entries reads due next (Err kind) e = inr (refused_at place lines entries (line ∷ rest) kind reads due (line_fails (behind place entries) line rest kind e))
+goes : (progress : Progress) (lines : List Line) (line : Line) (rest : List Line) (entries : List Entry) → Reads progress lines entries (line ∷ rest) → IsUnfinished (behind progress entries)
+    → ((entry : Entry) → Reads progress lines (entries ++ entry ∷ []) rest → Accepted progress lines ⊎ Refused progress lines) → (r : Result Entry CertKind) → entry_of (behind progress entries) line ≡ r
+    → Accepted progress lines ⊎ Refused progress lines
+goes progress lines line rest entries reads due next (Ok entry) e = next entry (reads_more progress lines entries (line ∷ rest) rest entry reads (line_at-said (behind progress entries) line rest entry e))
+goes progress lines line rest entries reads due next (Err kind) e = inr (refused_at progress lines entries (line ∷ rest) kind reads due (line_fails (behind progress entries) line rest kind e))
 
-decided_from : (place : Place) (lines rest : List Line) (entries : List Entry) → Reads place lines entries rest → Accepted place lines ⊎ Refused place lines
-decided_from place lines [] entries reads = elim (ended_or_not (behind place entries).latest) [
+decided_from : (progress : Progress) (lines rest : List Line) (entries : List Entry) → Reads progress lines entries rest → Accepted progress lines ⊎ Refused progress lines
+decided_from progress lines [] entries reads = elim (ended_or_not (behind progress entries).latest) [
   | inl e ↦ inl (entries, [], (reads, e))
-  | inr due ↦ inr (refused_at place lines entries [] kinds.Missing reads due (no_line (behind place entries)))
+  | inr due ↦ inr (refused_at progress lines entries [] kinds.Missing reads due (no_line (behind progress entries)))
 ]
-decided_from place lines (line ∷ rest) entries reads = elim (ended_or_not (behind place entries).latest) [
+decided_from progress lines (line ∷ rest) entries reads = elim (ended_or_not (behind progress entries).latest) [
   | inl e ↦ inl (entries, line ∷ rest, (reads, e))
-  | inr due ↦ goes place lines line rest entries reads due (λ entry more. decided_from place lines rest (entries ++ entry ∷ []) more) (entry_of (behind place entries) line) refl
+  | inr due ↦ goes progress lines line rest entries reads due (λ entry more. decided_from progress lines rest (entries ++ entry ∷ []) more) (entry_of (behind progress entries) line) refl
 ]
 
 no_lines : lines_of [] ≡ []

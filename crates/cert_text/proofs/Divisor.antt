@@ -22,6 +22,9 @@ unfolding divisor_within
 within_is zero a b le = IsGcd-from_zero a b (omega arith)
 within_is (suc steps) a b le = within_by steps a b le (eqb b 0) refl (within_is steps)
 
+pub gcd_same : (a b x y : ℕ) → IsGcd a b x → IsGcd a b y → x ≡ y
+gcd_same a b x y p q = dvd_antisymm (q.2 x p.0 p.1) (p.2 y q.0 q.1)
+
 abbrev pub Divides : ℕ → List ℤ → Type 0
 Divides d numbers = AllByRecursion (λ x. d ∣ unsigned_abs x) numbers
 

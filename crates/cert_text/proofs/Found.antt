@@ -1,6 +1,6 @@
 -- What the reader finds at each line is what the rules say of it.
 use Rattle.std.proofs.Common.{◌≡◌, ◌≢◌, ℕ, ◌+◌, ◌<◌, Bool, true, false, cond, List, [], ◌∷◌, Result, Ok, Err, ℤ, pos, refl, sym, ap, subst, ◌∙◌, arith, inl, inr}
-use Rattle.std.specs.Prelude.{codes, nat_lt}
+use Rattle.std.specs.Prelude.{codes, nat_lt, ◌==◌}
 use Rattle.text_words.specs.Lines.{Line, Word}
 use Rattle.text_words.specs.Forms.{◌>>=◌, begins, numbers_after, number_at}
 use Rattle.text_words.proofs.Chains.{bind_assoc, bind_same, begins_is, begins_so, true_false}
@@ -12,14 +12,14 @@ use Rattle.cert_text.specs.declared.fault.CertKind.{CertKind}
 use Rattle.cert_text.specs.declared.fault.CertKind.TheVariants as kinds
 use Rattle.cert_text.specs.Fault.{number_of_kind}
 use Rattle.cert_text.specs.Forms.{version_line, are_words, word_after, fraction_of, at_least}
-use Rattle.cert_text.specs.Entries.{Entry, Version, Outcome, Gap, Lower, Upper, Tail, Sizes, Start, Node, Vector, Mix, Next, Point, Belief, Value, Mixes, Split, End, entry_of, entry_after, version_said, outcome_said, gap_said, bound_said, lower_said, upper_said, tail_said, sizes_said, start_said, node_said, vector_said, mix_said, branch_said, next_said, point_said, belief_said, value_within, value_said, mixes_said, split_said, end_said, in_node, in_point, in_mixes, limits_of}
-use Rattle.cert_text.specs.Due.{Form, VersionLine, OutcomeLine, GapLine, LowerLine, UpperLine, TailLine, SizesLine, StartLine, FirstNodeLine, NodeLine, VectorLine, MixLine, NextLine, FirstPointLine, PointLine, BeliefLine, ValueLine, StateLine, SplitLine, EndLine, nodes_in, points_in, next_in, total_in, due, after_node, after_point, IsOneOf, name_of}
-use Rattle.cert_text.specs.Rules.{Rule, IsDueLine, Applies, IsLeast}
+use Rattle.cert_text.specs.Entries.{Entry, Version, Outcome, Gap, Lower, Upper, Tail, Sizes, Start, Multiple, From, Over, Node, Vector, Mix, Next, Point, Belief, Value, Mixes, Split, End, entry_of, entry_after, version_said, outcome_said, gap_said, bound_said, lower_said, upper_said, tail_said, sizes_said, start_said, multiple_said, from_said, over_said, first_said, in_sizes, in_from, in_over, node_said, vector_said, mix_said, branch_said, next_said, point_said, belief_said, value_within, value_said, mixes_said, split_said, end_said, in_node, in_point, in_mixes, limits_of}
+use Rattle.cert_text.specs.Due.{Form, VersionLine, OutcomeLine, GapLine, LowerLine, UpperLine, TailLine, SizesLine, StartLine, MultipleLine, FromLine, OverLine, FirstNodeLine, NodeLine, VectorLine, MixLine, NextLine, FirstPointLine, PointLine, BeliefLine, ValueLine, StateLine, SplitLine, EndLine, nodes_in, points_in, version_in, next_in, total_in, version_of, due, after_node, after_point, IsOneOf, name_of}
+use Rattle.cert_text.specs.Rules.{AreStartsWhole, Rule, IsDueLine, Applies, IsLeast}
 use Rattle.cert_text.specs.Reading.{AreEnded}
-use Rattle.cert_text.proofs.LawWords.{version_line-ok, version_line-to}
-use Rattle.cert_text.proofs.OneForm.{Differ, node_apart, point_apart}
-use Rattle.cert_text.proofs.Seen.{lacking_in, place_in, Kept}
-use Rattle.cert_text.proofs.Verdicts.{branch_steps, next_steps, split_steps, gap_checked, lower_checked, upper_checked, tail_checked, sizes_checked, start_checked, first_node_checked, node_checked, vector_checked, mix_checked, next_checked, first_point_checked, point_checked, belief_checked, value_checked, state_checked, split_checked, end_checked}
+use Rattle.cert_text.proofs.LawWords.{IsVersion, version_word_of, version_line-ok, version_line-one, version_line-two}
+use Rattle.cert_text.proofs.OneForm.{Differ, from_over, over_node, node_apart, point_apart}
+use Rattle.cert_text.proofs.Seen.{lacking_in, progress_in, Kept}
+use Rattle.cert_text.proofs.Verdicts.{branch_steps, next_steps, split_steps, gap_checked, lower_checked, upper_checked, tail_checked, sizes_checked, start_checked, multiple_checked, from_checked, over_checked, first_node_checked, over_node_checked, node_checked, vector_checked, mix_checked, next_checked, first_point_checked, point_checked, belief_checked, value_checked, state_checked, split_checked, end_checked}
 use Rattle.cert_text.proofs.Judged.{JudgedAs, judged_numbers, judged_fraction, judged_outcome, Judged, judged, spared}
 
 -- ---- each form
@@ -83,9 +83,27 @@ start_judged : (g : GameData) (before : List Entry) (line : Line) → JudgedAs g
 unfolding start_said
 start_judged g before line = judged_numbers g before line StartLine _ (λ w ns h. h, λ w ns h. h, λ w. tt) (λ words ns. start_checked g before words ns)
 
-first_node_judged : (g : GameData) (before : List Entry) (line : Line) → JudgedAs g before line FirstNodeLine (node_said 0 [] line)
+multiple_judged : (g : GameData) (before : List Entry) (line : Line) → JudgedAs g before line MultipleLine (multiple_said line)
+unfolding multiple_said
+multiple_judged g before line = judged_numbers g before line MultipleLine _ (λ w ns h. h, λ w ns h. h, λ w. tt) (λ words ns. multiple_checked g before words ns)
+
+from_judged : (g : GameData) (before : List Entry) (line : Line) → JudgedAs g before line FromLine (from_said (progress_in g before) line)
+unfolding from_said
+from_judged g before line = judged_numbers g before line FromLine _ (λ w ns h. h, λ w ns h. h, λ w. tt) (λ words ns. from_checked g before words ns)
+
+over_judged : (g : GameData) (before : List Entry) (line : Line) → JudgedAs g before line OverLine (over_said (progress_in g before) line)
+unfolding over_said
+over_judged g before line = judged_numbers g before line OverLine _ (λ w ns h. h, λ w ns h. h, λ w. tt) (λ words ns. over_checked g before words ns)
+
+first_node_judged : (g : GameData) (before : List Entry) (line : Line) → AreStartsWhole before → JudgedAs g before line FirstNodeLine (node_said 0 [] line)
 unfolding node_said
-first_node_judged g before line = judged_numbers g before line FirstNodeLine _ (λ w ns h. h, λ w ns h. h, λ w. tt) (λ words ns. first_node_checked g before words ns)
+first_node_judged g before line whole = judged_numbers g before line FirstNodeLine _ (λ w ns h. h, λ w ns h. h, λ w. tt) (λ words ns. first_node_checked g before words ns whole)
+
+over_node_judged : (g : GameData) (point : ℕ) (weight : ℤ) (b : List Entry) (line : Line)
+    → JudgedAs g (Over point weight ∷ b) line FirstNodeLine (first_said (progress_in g (Over point weight ∷ b)).starts line)
+unfolding first_said
+over_node_judged g point weight b line =
+    judged_numbers g (Over point weight ∷ b) line FirstNodeLine _ (λ w ns h. h, λ w ns h. h, λ w. tt) (λ words ns. over_node_checked g point weight b words ns)
 
 node_judged : (g : GameData) (before : List Entry) (line : Line) → IsGame g → Kept g before → JudgedAs g before line NodeLine (node_said (next_in before) (lacking_in g before) line)
 unfolding node_said
@@ -99,7 +117,7 @@ mix_judged : (g : GameData) (before : List Entry) (line : Line) → JudgedAs g b
 unfolding mix_said
 mix_judged g before line = judged_numbers g before line MixLine _ (λ w ns h. h, λ w ns h. h, λ w. tt) (λ words ns. mix_checked g before words ns)
 
-next_judged : (g : GameData) (before : List Entry) (line : Line) → IsGame g → Kept g before → JudgedAs g before line NextLine (next_said (place_in g before) line)
+next_judged : (g : GameData) (before : List Entry) (line : Line) → IsGame g → Kept g before → JudgedAs g before line NextLine (next_said (progress_in g before) line)
 unfolding next_said branch_said
 next_judged g before line game k =
     subst (JudgedAs g before line NextLine) (sym (bind_assoc (numbers_after kinds.Shape kinds.Number (codes "next") 4 line) (branch_steps g before (pos mix_total) (nodes_in before)) (next_steps g before)))
@@ -126,7 +144,7 @@ state_judged : (g : GameData) (before : List Entry) (line : Line) (state : ℕ) 
 unfolding mixes_said
 state_judged g before line state from to = judged_numbers g before line StateLine _ (λ w ns h. h, λ w ns h. h, λ w. tt) (λ words ns. state_checked g before words ns state (from ns) (to ns))
 
-split_judged : (g : GameData) (before : List Entry) (line : Line) → JudgedAs g before line SplitLine (split_said (place_in g before) line)
+split_judged : (g : GameData) (before : List Entry) (line : Line) → JudgedAs g before line SplitLine (split_said (progress_in g before) line)
 unfolding split_said branch_said
 split_judged g before line =
     subst (JudgedAs g before line SplitLine) (sym (bind_assoc (numbers_after kinds.Shape kinds.Number (codes "split") 4 line) (branch_steps g before most_share (points_in before)) split_steps))
@@ -171,31 +189,63 @@ pair_second g before line f h r some e b j =
     judged g before line h r some (subst (λ (forms : List Form). IsOneOf forms h) (sym e) (inr (inl refl)))
     (λ other words m. second_only f h other (λ n. true_false (begins (name_of f) line) (begins_so (name_of f) line (name_of other) words m.1.0 n) b) (subst (λ (forms : List Form). IsOneOf forms other) e m.0)) j
 
+abbrev first_start : Bool → List Form
+first_start first = cond first (StartLine ∷ []) (MultipleLine ∷ [])
+
+sizes_by : (g : GameData) (b : List Entry) (line : Line) (n p : ℕ) (first : Bool) → (version_in b == 1) ≡ first
+    → Judged g (Sizes n p ∷ b) line (cond first (start_said n p line) (multiple_said line))
+sizes_by g b line n p true e = sole g (Sizes n p ∷ b) line StartLine _ (cons_some (Sizes n p) b) (ap first_start e) (start_judged g (Sizes n p ∷ b) line)
+sizes_by g b line n p false e = sole g (Sizes n p ∷ b) line MultipleLine _ (cons_some (Sizes n p) b) (ap first_start e) (multiple_judged g (Sizes n p ∷ b) line)
+
+sizes_head : (g : GameData) (b : List Entry) (line : Line) (n p : ℕ) → Judged g (Sizes n p ∷ b) line (in_sizes (progress_in g (Sizes n p ∷ b)) line)
+unfolding in_sizes
+sizes_head g b line n p = sizes_by g b line n p (version_in b == 1) refl
+
+from_by : (g : GameData) (before : List Entry) (line : Line) → before ≢ [] → due g before ≡ FromLine ∷ OverLine ∷ [] → (first : Bool) → begins (codes "from") line ≡ first
+    → Judged g before line (cond first (from_said (progress_in g before) line) (over_said (progress_in g before) line))
+from_by g before line some e true p = pair_first g before line FromLine OverLine (from_said (progress_in g before) line) some e from_over p (from_judged g before line)
+from_by g before line some e false p = pair_second g before line FromLine OverLine (over_said (progress_in g before) line) some e p (over_judged g before line)
+
+from_head : (g : GameData) (before : List Entry) (line : Line) → before ≢ [] → due g before ≡ FromLine ∷ OverLine ∷ [] → Judged g before line (in_from (progress_in g before) line)
+unfolding in_from
+from_head g before line some e = from_by g before line some e (begins (codes "from") line) refl
+
+over_by : (g : GameData) (point : ℕ) (weight : ℤ) (b : List Entry) (line : Line) → (first : Bool) → begins (codes "over") line ≡ first
+    → Judged g (Over point weight ∷ b) line (cond first (over_said (progress_in g (Over point weight ∷ b)) line) (first_said (progress_in g (Over point weight ∷ b)).starts line))
+over_by g point weight b line true p =
+    pair_first g (Over point weight ∷ b) line OverLine FirstNodeLine (over_said (progress_in g (Over point weight ∷ b)) line) (cons_some (Over point weight) b) refl over_node p (over_judged g (Over point weight ∷ b) line)
+over_by g point weight b line false p =
+    pair_second g (Over point weight ∷ b) line OverLine FirstNodeLine (first_said (progress_in g (Over point weight ∷ b)).starts line) (cons_some (Over point weight) b) refl p (over_node_judged g point weight b line)
+
+over_head : (g : GameData) (point : ℕ) (weight : ℤ) (b : List Entry) (line : Line) → Judged g (Over point weight ∷ b) line (in_over (progress_in g (Over point weight ∷ b)) line)
+unfolding in_over
+over_head g point weight b line = over_by g point weight b line (begins (codes "over") line) refl
+
 node_by : (g : GameData) (before : List Entry) (line : Line) → IsGame g → Kept g before → before ≢ [] → due g before ≡ NextLine ∷ after_node before ∷ []
     → (b more : Bool) → begins (codes "next") line ≡ b → nat_lt (next_in before) (nodes_in before) ≡ more
-    → Judged g before line (cond b (next_said (place_in g before) line) (cond more (node_said (next_in before) (lacking_in g before) line) (point_said 0 (lacking_in g before) line)))
+    → Judged g before line (cond b (next_said (progress_in g before) line) (cond more (node_said (next_in before) (lacking_in g before) line) (point_said 0 (lacking_in g before) line)))
 node_by g before line game k some e true more p q =
-    pair_first g before line NextLine (after_node before) (next_said (place_in g before) line) some e (node_apart (nat_lt (next_in before) (nodes_in before))) p (next_judged g before line game k)
+    pair_first g before line NextLine (after_node before) (next_said (progress_in g before) line) some e (node_apart (nat_lt (next_in before) (nodes_in before))) p (next_judged g before line game k)
 node_by g before line game k some e false true p q =
     pair_second g before line NextLine NodeLine (node_said (next_in before) (lacking_in g before) line) some (e ∙ ap (λ (m : Bool). NextLine ∷ cond m NodeLine FirstPointLine ∷ []) q) p (node_judged g before line game k)
 node_by g before line game k some e false false p q =
     pair_second g before line NextLine FirstPointLine (point_said 0 (lacking_in g before) line) some (e ∙ ap (λ (m : Bool). NextLine ∷ cond m NodeLine FirstPointLine ∷ []) q) p (first_point_judged g before line game k)
 
-node_head : (g : GameData) (before : List Entry) (line : Line) → IsGame g → Kept g before → before ≢ [] → due g before ≡ NextLine ∷ after_node before ∷ [] → Judged g before line (in_node (place_in g before) line)
+node_head : (g : GameData) (before : List Entry) (line : Line) → IsGame g → Kept g before → before ≢ [] → due g before ≡ NextLine ∷ after_node before ∷ [] → Judged g before line (in_node (progress_in g before) line)
 unfolding in_node
 node_head g before line game k some e = node_by g before line game k some e (begins (codes "next") line) (nat_lt (next_in before) (nodes_in before)) refl refl
 
 point_by : (g : GameData) (before : List Entry) (line : Line) → before ≢ [] → due g before ≡ SplitLine ∷ after_point before ∷ []
     → (b more : Bool) → begins (codes "split") line ≡ b → nat_lt (next_in before) (points_in before) ≡ more
-    → Judged g before line (cond b (split_said (place_in g before) line) (cond more (point_said (next_in before) [] line) (end_said line)))
+    → Judged g before line (cond b (split_said (progress_in g before) line) (cond more (point_said (next_in before) [] line) (end_said line)))
 point_by g before line some e true more p q =
-    pair_first g before line SplitLine (after_point before) (split_said (place_in g before) line) some e (point_apart (nat_lt (next_in before) (points_in before))) p (split_judged g before line)
+    pair_first g before line SplitLine (after_point before) (split_said (progress_in g before) line) some e (point_apart (nat_lt (next_in before) (points_in before))) p (split_judged g before line)
 point_by g before line some e false true p q =
     pair_second g before line SplitLine PointLine (point_said (next_in before) [] line) some (e ∙ ap (λ (m : Bool). SplitLine ∷ cond m PointLine EndLine ∷ []) q) p (point_judged g before line)
 point_by g before line some e false false p q =
     pair_second g before line SplitLine EndLine (end_said line) some (e ∙ ap (λ (m : Bool). SplitLine ∷ cond m PointLine EndLine ∷ []) q) p (end_judged g before line)
 
-point_head : (g : GameData) (before : List Entry) (line : Line) → before ≢ [] → due g before ≡ SplitLine ∷ after_point before ∷ [] → Judged g before line (in_point (place_in g before) line)
+point_head : (g : GameData) (before : List Entry) (line : Line) → before ≢ [] → due g before ≡ SplitLine ∷ after_point before ∷ [] → Judged g before line (in_point (progress_in g before) line)
 unfolding in_point
 point_head g before line some e = point_by g before line some e (begins (codes "split") line) (nat_lt (next_in before) (points_in before)) refl refl
 
@@ -203,33 +253,34 @@ abbrev after_state : Bool → List Entry → List Form
 after_state more before = cond more (StateLine ∷ []) (SplitLine ∷ after_point before ∷ [])
 
 mixes_by : (g : GameData) (before : List Entry) (line : Line) (state : ℕ) (weights : List ℤ) (more : Bool) → nat_lt (state + 1) g.shape.states ≡ more
-    → Judged g (Mixes state weights ∷ before) line (cond more (mixes_said (limits_of g) (state + 1) line) (in_point (place_in g (Mixes state weights ∷ before)) line))
+    → Judged g (Mixes state weights ∷ before) line (cond more (mixes_said (limits_of g) (state + 1) line) (in_point (progress_in g (Mixes state weights ∷ before)) line))
 mixes_by g before line state weights true q =
     let b = Mixes state weights ∷ before in
     sole g b line StateLine (mixes_said (limits_of g) (state + 1) line) (cons_some (Mixes state weights) before) (ap (λ (m : Bool). after_state m before) q) (state_judged g b line (state + 1) (λ ns r. r) (λ ns r. r))
 mixes_by g before line state weights false q =
     let b = Mixes state weights ∷ before in point_head g b line (cons_some (Mixes state weights) before) (ap (λ (m : Bool). after_state m before) q)
 
-mixes_head : (g : GameData) (before : List Entry) (line : Line) (state : ℕ) (weights : List ℤ) → Judged g (Mixes state weights ∷ before) line (in_mixes (place_in g (Mixes state weights ∷ before)) line)
+mixes_head : (g : GameData) (before : List Entry) (line : Line) (state : ℕ) (weights : List ℤ) → Judged g (Mixes state weights ∷ before) line (in_mixes (progress_in g (Mixes state weights ∷ before)) line)
 unfolding in_mixes
 mixes_head g before line state weights = mixes_by g before line state weights (nat_lt (state + 1) g.shape.states) refl
 
 -- ---- the first line
 
-read_with : Unit {0} → Result (Unit {0}) CertKind
-read_with u = Ok u
+read_with : ℕ → Result ℕ CertKind
+read_with n = Ok n
 
-kind_by : (b : Bool) (kind : CertKind) → cond b (read_with tt) (Err kinds.Version) ≡ Err kind → kind ≡ kinds.Version
+kind_by : (a b : Bool) (kind : CertKind) → cond a (read_with 1) (cond b (read_with 2) (Err kinds.Version)) ≡ Err kind → kind ≡ kinds.Version
 unfolding read_with
-kind_by true kind h = absurd cc
-kind_by false kind h = cc
+kind_by true b kind h = absurd cc
+kind_by false true kind h = absurd cc
+kind_by false false kind h = cc
 
 version_kind : (line : Line) (kind : CertKind) → version_line line ≡ Err kind → kind ≡ kinds.Version
 unfolding version_line read_with
-version_kind line kind e = kind_by (are_words (codes "certificate") (codes "1") line) kind e
+version_kind line kind e = kind_by (are_words (codes "certificate") (codes "1") line) (are_words (codes "certificate") (codes "2") line) kind e
 
-no_version : (r : Result (Unit {0}) CertKind) (kind : CertKind) → r ≡ Err kind → r ≡ Ok tt → ⊥
-no_version r kind p q = cc
+no_version : (r : Result ℕ CertKind) (kind : CertKind) (n : ℕ) → r ≡ Err kind → r ≡ Ok n → ⊥
+no_version r kind n p q = cc
 
 none_first : (g : GameData) (line : Line) (lesser : CertKind) → number_of_kind lesser < 1 → Applies g [] line lesser → ⊥
 none_first g line kinds.Version l a = omega (arith, l)
@@ -247,13 +298,31 @@ no_rule : (g : GameData) (before : List Entry) (kind : CertKind) → Rule g befo
 no_rule g before kinds.Version = tt
 no_rule g before _ = tt
 
-version_by : (g : GameData) (line : Line) (r : Result (Unit {0}) CertKind) → version_line line ≡ r → Judged g [] line (r >>= (λ u. Ok Version))
-version_by g line (Ok u) e =
-    let is = version_line-ok line u e in
-    let d : IsDueLine g [] line VersionLine (codes "1" ∷ []) = (inl refl, (is, refl, tt)) in
-    ((VersionLine, codes "1" ∷ [], [], d, refl, refl), λ kind. spared g [] line VersionLine (codes "1" ∷ []) [] (λ a. a.1 is) d refl kind (no_rule g [] kind))
+-- the version of a word, where it is one
+version_again : (n : ℕ) → IsVersion n → version_of (version_word_of n ∷ []) ≡ n
+version_again n (inl e) = ap (λ (m : ℕ). version_of (version_word_of m ∷ [])) e ∙ sym e
+version_again n (inr e) = ap (λ (m : ℕ). version_of (version_word_of m ∷ [])) e ∙ sym e
+
+-- the line is none of another kind
+not_refused : (g : GameData) (line : Line) (n : ℕ) → IsVersion n → line ≡ codes "certificate" ∷ version_word_of n ∷ [] → Applies g [] line kinds.Version → ⊥
+not_refused g line n (inl e) is a = a.1 (is ∙ ap (λ (m : ℕ). codes "certificate" ∷ version_word_of m ∷ []) e)
+not_refused g line n (inr e) is a = a.2 (is ∙ ap (λ (m : ℕ). codes "certificate" ∷ version_word_of m ∷ []) e)
+
+version_by : (g : GameData) (line : Line) (r : Result ℕ CertKind) → version_line line ≡ r → Judged g [] line (r >>= (λ n. Ok (Version n)))
+version_by g line (Ok n) e =
+    let p = version_line-ok line n e in
+    let words : Line = version_word_of n ∷ [] in
+    let d : IsDueLine g [] line VersionLine words = (inl refl, (p.1, refl, tt)) in
+    ((VersionLine, words, [], d, refl, ap (λ (m : ℕ). Version m) (sym (version_again n p.0))), λ kind. spared g [] line VersionLine words [] (not_refused g line n p.0 p.1) d refl kind (no_rule g [] kind))
 version_by g line (Err kind) e =
-    subst (IsLeast g [] line) (sym (version_kind line kind e)) ((refl, λ is. no_version (version_line line) kind e (ap version_line is ∙ version_line-to)), none_first g line)
+    subst (IsLeast g [] line) (sym (version_kind line kind e)) (
+      (
+        refl,
+        λ is. no_version (version_line line) kind 1 e (ap version_line is ∙ version_line-one),
+        λ is. no_version (version_line line) kind 2 e (ap version_line is ∙ version_line-two),
+      ),
+      none_first g line,
+    )
 
 version_head : (g : GameData) (line : Line) → Judged g [] line (version_said line)
 unfolding version_said
@@ -261,17 +330,20 @@ version_head g line = version_by g line (version_line line) refl
 
 -- ---- each line
 
-pub judge : (g : GameData) (before : List Entry) (line : Line) → IsGame g → Kept g before → (AreEnded before → ⊥) → Judged g before line (entry_of (place_in g before) line)
+pub judge : (g : GameData) (before : List Entry) (line : Line) → IsGame g → Kept g before → (AreEnded before → ⊥) → Judged g before line (entry_of (progress_in g before) line)
 unfolding entry_after outcome_said
 judge g [] line game k more = version_head g line
-judge g (Version ∷ b) line game k more = sole g (Version ∷ b) line OutcomeLine _ (cons_some Version b) refl (judged_outcome g (Version ∷ b) line)
+judge g (Version v ∷ b) line game k more = sole g (Version v ∷ b) line OutcomeLine _ (cons_some (Version v) b) refl (judged_outcome g (Version v ∷ b) line)
 judge g (Outcome ending ∷ b) line game k more = sole g (Outcome ending ∷ b) line GapLine _ (cons_some (Outcome ending) b) refl (gap_judged g (Outcome ending ∷ b) line)
 judge g (Gap f ∷ b) line game k more = sole g (Gap f ∷ b) line LowerLine _ (cons_some (Gap f) b) refl (lower_judged g (Gap f ∷ b) line)
 judge g (Lower f ∷ b) line game k more = sole g (Lower f ∷ b) line UpperLine _ (cons_some (Lower f) b) refl (upper_judged g (Lower f ∷ b) line)
 judge g (Upper f ∷ b) line game k more = sole g (Upper f ∷ b) line TailLine _ (cons_some (Upper f) b) refl (tail_judged g (Upper f ∷ b) line)
 judge g (Tail f ∷ b) line game k more = sole g (Tail f ∷ b) line SizesLine _ (cons_some (Tail f) b) refl (sizes_judged g (Tail f ∷ b) line)
-judge g (Sizes n p ∷ b) line game k more = sole g (Sizes n p ∷ b) line StartLine _ (cons_some (Sizes n p) b) refl (start_judged g (Sizes n p ∷ b) line)
-judge g (Start i j ∷ b) line game k more = sole g (Start i j ∷ b) line FirstNodeLine _ (cons_some (Start i j) b) refl (first_node_judged g (Start i j ∷ b) line)
+judge g (Sizes n p ∷ b) line game k more = sizes_head g b line n p
+judge g (Start i j ∷ b) line game k more = sole g (Start i j ∷ b) line FirstNodeLine _ (cons_some (Start i j) b) refl (first_node_judged g (Start i j ∷ b) line tt)
+judge g (Multiple m ∷ b) line game k more = sole g (Multiple m ∷ b) line FromLine _ (cons_some (Multiple m) b) refl (from_judged g (Multiple m ∷ b) line)
+judge g (From i x ∷ b) line game k more = from_head g (From i x ∷ b) line (cons_some (From i x) b) refl
+judge g (Over j z ∷ b) line game k more = over_head g j z b line
 judge g (Node number ∷ b) line game k more = sole g (Node number ∷ b) line VectorLine _ (cons_some (Node number) b) refl (vector_judged g (Node number ∷ b) line)
 judge g (Vector v ∷ b) line game k more = sole g (Vector v ∷ b) line MixLine _ (cons_some (Vector v) b) refl (mix_judged g (Vector v ∷ b) line)
 judge g (Mix w ∷ b) line game k more = node_head g (Mix w ∷ b) line game k (cons_some (Mix w) b) refl

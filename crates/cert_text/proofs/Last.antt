@@ -1,4 +1,4 @@
--- The last of a list changed in its place.
+-- The last of a list changed.
 use Rattle.std.proofs.Common.{◌≡◌, ℕ, ◌-◌, ◌<◌, List, [], ◌∷◌, ◌++◌, length, map, get_or, set, refl, ap, ◌∙◌, arith}
 use Rattle.cert_text.specs.Made.{at_last}
 

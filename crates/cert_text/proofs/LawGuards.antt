@@ -1,7 +1,7 @@
 -- What each test of a line says.
-use Rattle.game_model.specs.Limits.{most_members}
-use Rattle.std.proofs.Common.{◌≡◌, ℕ, ◌<◌, ◌≤◌, true, ◌&&◌, ◌||◌, eqb, ltb, List, [], ◌∷◌, Ok, ℤ, pos, refl, ap, subst, ◌∙◌, arith, inl, inr, ◌⊎◌}
-use Rattle.std.specs.Prelude.{◌≤ℤ◌, unsigned_abs, int_le, int_lt, ◌==◌, nat_lt}
+use Rattle.std.proofs.Common.{◌≡◌, ℕ, ◌<◌, ◌≤◌, true, ◌&&◌, ◌||◌, eqb, ltb, List, [], ◌∷◌, Ok, Err, ℤ, pos, refl, ap, subst, ◌∙◌, arith, inl, inr, ◌⊎◌}
+use Rattle.game_model.specs.Limits.{most_belief, most_members}
+use Rattle.std.specs.Prelude.{◌≤ℤ◌, unsigned_abs, int_le, int_lt, if◌then◌else◌, ◌==◌, nat_lt}
 use Rattle.std.specs.List.{AllByRecursion, list_all}
 use Rattle.std.proofs.lemmas.Int.{ints}
 use Rattle.std.proofs.lemmas.Bool.{eqb-true, ltb-true}
@@ -13,9 +13,9 @@ use Rattle.game_model.specs.Branches.{mix_total}
 use Rattle.game_model.specs.Game.{IsWithin, AreCoprime}
 use Rattle.controller.specs.Certificates.{}
 use Rattle.cert_text.specs.declared.fault.CertKind.TheVariants as kinds
-use Rattle.cert_text.specs.declared.place.Latest.{Latest}
-use Rattle.cert_text.specs.declared.place.Latest.TheVariants as latest
-use Rattle.cert_text.specs.Forms.{at_least, is_due, member_below, few, is_after, later_branch, sums_to_mix, common_divisor, most_belief, belief_total, none_lacks, fits_lack}
+use Rattle.cert_text.specs.declared.progress.Latest.{Latest}
+use Rattle.cert_text.specs.declared.progress.Latest.TheVariants as latest
+use Rattle.cert_text.specs.Forms.{at_least, is_due, member_below, few, is_after, later_branch, above_from, above_over, sums_to_mix, common_divisor, belief_total, none_lacks, fits_lack}
 use Rattle.cert_text.proofs.Divisor.{coprime_from, coprime_to}
 
 -- the tests of numbers
@@ -119,6 +119,38 @@ unfolding later_branch
 later_branch-to (latest.Next a o k) own seen member h = rw (after_to a o k own seen member h) refl
 later_branch-to (latest.Split a o k) own seen member h = rw (after_to a o k own seen member h) refl
 later_branch-to _ own seen member h = refl
+
+-- greater than the number of the start just before
+abbrev pub IsAboveFrom : Latest → ℕ → Type 0
+IsAboveFrom (latest.From node) number = node < number
+IsAboveFrom _ number = Unit {0}
+
+abbrev pub IsAboveOver : Latest → ℕ → Type 0
+IsAboveOver (latest.Over point) number = point < number
+IsAboveOver _ number = Unit {0}
+
+above_by : (m n : ℕ) (u : Unit {0}) → (if int_lt (pos m) (pos n) then Ok tt else Err kinds.Order) ≡ Ok u → m < n
+above_by m n u h = let l = lt_from (pos m) (pos n) (cond_ok (int_lt (pos m) (pos n)) tt u kinds.Order h).0 in omega (arith, ints, l)
+
+pub above_from-ok : (l : Latest) (number : ℕ) (u : Unit {0}) → above_from l (pos number) ≡ Ok u → IsAboveFrom l number
+unfolding above_from
+above_from-ok (latest.From node) number u h = above_by node number u h
+above_from-ok _ number u h = tt
+
+pub above_from-to : (l : Latest) (number : ℕ) → IsAboveFrom l number → above_from l (pos number) ≡ Ok tt
+unfolding above_from
+above_from-to (latest.From node) number h = rw (lt_to (pos node) (pos number) (omega (arith, ints, h))) refl
+above_from-to _ number h = refl
+
+pub above_over-ok : (l : Latest) (number : ℕ) (u : Unit {0}) → above_over l (pos number) ≡ Ok u → IsAboveOver l number
+unfolding above_over
+above_over-ok (latest.Over point) number u h = above_by point number u h
+above_over-ok _ number u h = tt
+
+pub above_over-to : (l : Latest) (number : ℕ) → IsAboveOver l number → above_over l (pos number) ≡ Ok tt
+unfolding above_over
+above_over-to (latest.Over point) number h = rw (lt_to (pos point) (pos number) (omega (arith, ints, h))) refl
+above_over-to _ number h = refl
 
 -- sums
 

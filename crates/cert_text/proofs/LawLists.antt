@@ -1,4 +1,4 @@
--- Lists by their places: texts of members in order, changed last members, branches from behind.
+-- Lists by their indices: texts of members in order, changed last members, branches from behind.
 use Rattle.std.proofs.Common.{◌≡◌, ℕ, zero, suc, ◌+◌, ◌<◌, Bool, true, false, cond, ◌&&◌, List, [], ◌∷◌, ◌++◌, reverse, length, map, get_or, ℤ, pos, refl, sym, ap, subst, ◌∙◌, arith, add-one}
 use Rattle.std.specs.Prelude.{flat_map, ◌+ℤ◌, ◌==◌, slice_index_or}
 use Rattle.std.specs.List.{AllByRecursion, range_with_len}
@@ -53,9 +53,9 @@ map_shift : {X : Type 0} (f : ℕ → X) (a n : ℕ) → map f (range_with_len (
 map_shift f a zero = refl
 map_shift {X} f a (suc n) = rw (add-one a) (ap (λ (ys : List X). f (suc a) ∷ ys) (rw (← (add-one a)) (map_shift f (a + 1) n)))
 
-pub map_places : {X : Type 0} (d : X) (xs : List X) → map (λ i. get_or xs i d) (below (length xs)) ≡ xs
-map_places d [] = refl
-map_places {X} d (x ∷ xs) = ap (λ (ys : List X). x ∷ ys) (map_shift (λ i. get_or (x ∷ xs) i d) 0 (length xs) ∙ map_places d xs)
+pub map_indices : {X : Type 0} (d : X) (xs : List X) → map (λ i. get_or xs i d) (below (length xs)) ≡ xs
+map_indices d [] = refl
+map_indices {X} d (x ∷ xs) = ap (λ (ys : List X). x ∷ ys) (map_shift (λ i. get_or (x ∷ xs) i d) 0 (length xs) ∙ map_indices d xs)
 
 -- lists from behind
 
@@ -112,7 +112,7 @@ weight_reverse (b ∷ back) a o =
     let p : weight_at (reverse (b ∷ back)) a o ≡ weight_at (reverse back ++ b ∷ []) a o = ap (λ (xs : List Branch). weight_at xs a o) (reverse-cons b back) in
     omega (arith, ints, p, weight_append (reverse back) (b ∷ []) a o, weight_reverse back a o, weight_one b back a o ((b.own == a) && (b.seen == o)) refl)
 
--- a list of nothing lacks nothing at each place
+-- a list of nothing lacks nothing at each index
 pub at_none : (xs : List ℤ) → AllByRecursion (λ x. x ≡ pos 0) xs → (i : ℕ) → slice_index_or xs i (pos 0) ≡ pos 0
 at_none [] h i = refl
 at_none (x ∷ xs) h zero = h.0

@@ -14,12 +14,12 @@ use Rattle.game_model.specs.Game.{GameData, IsGame, numbers}
 use Rattle.alpha_set.specs.Nodes.{NodeData, NodeFits}
 use Rattle.controller.specs.Certificates.{CertificateData}
 use Rattle.text_words.proofs.Numerals.{Small}
-use Rattle.cert_text.specs.Entries.{Entry, Vector, Mix, Next, Node, Point, entry_of, entry_after, in_node, limits_of, place_at, lacking_of, lacking_less}
+use Rattle.cert_text.specs.Entries.{Entry, Vector, Mix, Next, Node, Point, entry_of, entry_after, in_node, limits_of, pair_at, lacking_of, lacking_less}
 use Rattle.cert_text.proofs.LawGuards.{IsLater, IsNone}
 use Rattle.cert_text.proofs.LawSaid.{words_in, branch_numbers, vector-to, mix-to, in_node-next, in_node-node, in_node-point, NextFits, VectorFits, MixFits}
 use Rattle.cert_text.proofs.LawLists.{HeadBefore, weight_at, weight_hit, weight_miss, none_at, length_more}
 use Rattle.cert_text.proofs.LawParts.{cell_below}
-use Rattle.cert_text.proofs.LawStages.{Head, AtNode, AtVector, AtSteps, AtPoint, place_of, latest_step, node_from, Known, NodesFit, StepsFit, Lacks}
+use Rattle.cert_text.proofs.LawStages.{Head, AtNode, AtVector, AtSteps, AtPoint, progress_of, latest_step, node_from, Known, NodesFit, StepsFit, Lacks}
 use Rattle.cert_text.proofs.LawSteps.{step_vector, step_weights, step_next, step_node, step_point}
 use Rattle.cert_text.proofs.LawWrites.{Can, can_step, small_few, small_each, small_span, small_branch, numbered_written, word_node, word_vector, word_mix, word_next, word_point}
 
@@ -50,7 +50,7 @@ pub goes_first : (rest : List Branch) → AreRising rest → GoesOn [] rest
 goes_first [] h = tt
 goes_first (b ∷ rest) h = (tt, h)
 
--- ---- weights by place
+-- ---- weights by pair
 
 abbrev cell : ℕ → Branch → ℕ
 cell n b = b.own * n + b.seen
@@ -131,7 +131,7 @@ nothing_lacks g m back L game k whole =
       | inr ge ↦ k.past i ge
     ])
 
--- no place before the next step lacks anything
+-- no pair before the next step lacks anything
 earlier_none : (g : GameData) (m : List ℤ) (back : List Branch) (b : Branch) (rest : List Branch) (L : List ℤ) → IsGame g → Lacks g m back L → IsWhole g m back (b ∷ rest)
     → AllByRecursion (From g.shape.observations (cell g.shape.observations b)) (b ∷ rest) → cell g.shape.observations b < g.shape.own_actions * g.shape.observations
     → AllByRecursion IsNone (take (cell g.shape.observations b) L)
@@ -174,7 +174,7 @@ step_later [] b h = tt
 step_later (d ∷ back) b h = h
 
 next_fits : (g : GameData) (h : Head) (ns : List NodeData) (v m : List ℤ) (back : List Branch) (b : Branch) (rest : List Branch) (L : List ℤ) → IsGame g → StepsFit g h v m back L → IsWhole g m back (b ∷ rest)
-    → GoesOn back (b ∷ rest) → AllByRecursion (IsStep g h) (b ∷ rest) → NextFits (place_of g (AtSteps h ns v m back L)) b
+    → GoesOn back (b ∷ rest) → AllByRecursion (IsStep g h) (b ∷ rest) → NextFits (progress_of g (AtSteps h ns v m back L)) b
 next_fits g h ns v m back b rest L game k whole on f =
     let n = g.shape.observations in
     record {
@@ -186,7 +186,7 @@ next_fits g h ns v m back b rest L game k whole on f =
 -- ---- the steps of a node
 
 in_steps : (g : GameData) (h : Head) (ns : List NodeData) (v m : List ℤ) (back : List Branch) (L : List ℤ) (line : Line) (e : Entry)
-    → in_node (place_of g (AtSteps h ns v m back L)) line ≡ Ok e → entry_of (place_of g (AtSteps h ns v m back L)) line ≡ Ok e
+    → in_node (progress_of g (AtSteps h ns v m back L)) line ≡ Ok e → entry_of (progress_of g (AtSteps h ns v m back L)) line ≡ Ok e
 unfolding entry_after
 in_steps g h ns v m [] L line e p = p
 in_steps g h ns v m (b ∷ back) L line e p = p
@@ -199,19 +199,19 @@ steps_can g k h ns v m (b ∷ rest) back L game before fits whole on f next =
     let s = AtSteps h ns v m back L in
     let small = small_branch g h.nodes (pos mix_total) b game before.head.sizes.most_nodes (omega arith) f.0 in
     let ok = next_fits g h ns v m back b rest L game fits whole on f in
-    can_step g s (Next b) (AtSteps h ns v m (b ∷ back) (lacking_less L (place_at (limits_of g) b) b.weight)) k
+    can_step g s (Next b) (AtSteps h ns v m (b ∷ back) (lacking_less L (pair_at (limits_of g) b) b.weight)) k
     (step_next g h ns v m back L b game before fits ok)
-    (in_steps g h ns v m back L (words_in (Next b)) (Next b) (in_node-next (place_of g s) b small ok))
+    (in_steps g h ns v m back L (words_in (Next b)) (Next b) (in_node-next (progress_of g s) b small ok))
     (numbered_written (codes "next") (branch_numbers b) word_next small)
-    (λ known. steps_can g k h ns v m rest (b ∷ back) (lacking_less L (place_at (limits_of g) b) b.weight) game before known.1 (whole_on g m back b rest whole) (goes_further back b rest on) f.1 next)
+    (λ known. steps_can g k h ns v m rest (b ∷ back) (lacking_less L (pair_at (limits_of g) b) b.weight) game before known.1 (whole_on g m back b rest whole) (goes_further back b rest on) f.1 next)
 
 -- ---- a node
 
-vector_ok : (g : GameData) (h : Head) (ns : List NodeData) (v L : List ℤ) → AllByRecursion Small v → VectorFits (limits_of g) v → entry_of (place_of g (AtNode h ns L)) (words_in (Vector v)) ≡ Ok (Vector v)
+vector_ok : (g : GameData) (h : Head) (ns : List NodeData) (v L : List ℤ) → AllByRecursion Small v → VectorFits (limits_of g) v → entry_of (progress_of g (AtNode h ns L)) (words_in (Vector v)) ≡ Ok (Vector v)
 unfolding entry_after
 vector_ok g h ns v L small fits = vector-to (limits_of g) v small fits
 
-mix_ok : (g : GameData) (h : Head) (ns : List NodeData) (v m L : List ℤ) → AllByRecursion Small m → MixFits g.shape.own_actions m → entry_of (place_of g (AtVector h ns v L)) (words_in (Mix m)) ≡ Ok (Mix m)
+mix_ok : (g : GameData) (h : Head) (ns : List NodeData) (v m L : List ℤ) → AllByRecursion Small m → MixFits g.shape.own_actions m → entry_of (progress_of g (AtVector h ns v L)) (words_in (Mix m)) ≡ Ok (Mix m)
 unfolding entry_after
 mix_ok g h ns v m L small fits = mix-to (limits_of g) m small fits
 
@@ -237,15 +237,15 @@ node_again n = ap (λ (xs : List Branch). record { vector = n.vector; mix = n.mi
 -- ---- all nodes
 
 node_entry : (g : GameData) (h : Head) (ns : List NodeData) (v m : List ℤ) (back : List Branch) (L : List ℤ) → NodesFit g h ns → length ns + 1 < h.nodes → AllByRecursion IsNone L
-    → entry_of (place_of g (AtSteps h ns v m back L)) (words_in (Node (length ns + 1))) ≡ Ok (Node (length ns + 1))
+    → entry_of (progress_of g (AtSteps h ns v m back L)) (words_in (Node (length ns + 1))) ≡ Ok (Node (length ns + 1))
 node_entry g h ns v m back L before more none =
     in_steps g h ns v m back L (words_in (Node (length ns + 1))) (Node (length ns + 1))
-    (in_node-node (place_of g (AtSteps h ns v m back L)) (small_few (length ns + 1) (omega (arith, more, before.head.sizes.most_nodes))) more none)
+    (in_node-node (progress_of g (AtSteps h ns v m back L)) (small_few (length ns + 1) (omega (arith, more, before.head.sizes.most_nodes))) more none)
 
 point_entry : (g : GameData) (h : Head) (ns : List NodeData) (v m : List ℤ) (back : List Branch) (L : List ℤ) → h.nodes ≤ length ns + 1 → AllByRecursion IsNone L
-    → entry_of (place_of g (AtSteps h ns v m back L)) (words_in (Point 0)) ≡ Ok (Point 0)
+    → entry_of (progress_of g (AtSteps h ns v m back L)) (words_in (Point 0)) ≡ Ok (Point 0)
 point_entry g h ns v m back L last none =
-    in_steps g h ns v m back L (words_in (Point 0)) (Point 0) (in_node-point (place_of g (AtSteps h ns v m back L)) last none)
+    in_steps g h ns v m back L (words_in (Point 0)) (Point 0) (in_node-point (progress_of g (AtSteps h ns v m back L)) last none)
 
 abbrev AfterNodes : GameData → CertificateData → Head → List NodeData → Type 0
 AfterNodes g k h ns = (L : List ℤ) → Known g (AtPoint h ns [] L (pos 0)) → Can g (AtPoint h ns [] L (pos 0)) k

@@ -19,15 +19,16 @@ use Rattle.game_model.specs.Game.{GameData, IsShape, IsWithin, numbers}
 use Rattle.alpha_set.specs.Nodes.{NodeFits}
 use Rattle.belief.specs.Mixes.{mix_at}
 use Rattle.point_set.specs.Points.{PointFits, most_share}
-use Rattle.cert_text.specs.Entries.{limits_of, place_at, lacking_of, lacking_less}
-use Rattle.cert_text.specs.Text.{line_of, mix_text}
+use Rattle.cert_text.specs.Entries.{limits_of, pair_at, lacking_of, lacking_less}
+use Rattle.cert_text.specs.Text.{mix_text}
+use Rattle.text_words.specs.Spelled.{line_of}
 use Rattle.cert_text.proofs.LawGuards.{IsLater, IsNone}
 use Rattle.cert_text.proofs.LawSaid.{MixFits}
-use Rattle.cert_text.proofs.LawLists.{HeadBefore, rising_reverse, weight_at, weight_hit, weight_miss, weight_reverse, at_none, flat_push, map_below, map_places}
+use Rattle.cert_text.proofs.LawLists.{HeadBefore, rising_reverse, weight_at, weight_hit, weight_miss, weight_reverse, at_none, flat_push, map_below, map_indices}
 use Rattle.cert_text.proofs.LawStages.{Head, Lacks, StepsFit, BranchesFit, RowsFit, PartFits, mixes_from, node_from, point_from, latest_step, latest_share, mixes_bytes}
 use Rattle.text_words.proofs.Texts.{flat_below, each_reverse}
 
--- ---- places
+-- ---- pairs
 
 pub cell_below : (a n o m : ℕ) → a < n → o < m → a * m + o < n * m
 cell_below a n o m la lo =
@@ -35,9 +36,9 @@ cell_below a n o m la lo =
     let e : (a + 1) * m ≡ a * m + m = omega arith in
     omega (arith, h, e)
 
--- there are at most 48 places
-pub places_few : (g : GameData) → IsShape g.shape → g.shape.own_actions * g.shape.observations ≤ 48
-places_few g s =
+-- there are at most 48 pairs
+pub pairs_few : (g : GameData) → IsShape g.shape → g.shape.own_actions * g.shape.observations ≤ 48
+pairs_few g s =
     let h = mul-le-mul_right {m = g.shape.own_actions} {n = 6} g.shape.observations s.own_actions.1 in
     omega (arith, h, s.observations.1)
 
@@ -66,7 +67,7 @@ length_lacking m n = length-map (below 48) (λ i. get_or m (i / n) (pos 0))
 pub lacks_first : (g : GameData) (m : List ℤ) → IsShape g.shape → MixFits g.shape.own_actions m → Lacks g m [] (lacking_of g.shape.observations m)
 lacks_first g m s fits =
     let n = g.shape.observations in
-    let few = places_few g s in
+    let few = pairs_few g s in
     record {
       long = length_lacking m n;
       each = λ a o la lo.
@@ -93,18 +94,18 @@ one_false b a o apart = by (b.own == a) (b.seen == o) refl refl
 lack_each : (g : GameData) (m : List ℤ) (back : List Branch) (L : List ℤ) (b : Branch) → IsShape g.shape → Lacks g m back L → b.own < g.shape.own_actions → b.seen < g.shape.observations
     → (a o : ℕ) → a < g.shape.own_actions → o < g.shape.observations
     → (((b.own ≡ a) × (b.seen ≡ o)) ⊎ ((b.own ≡ a) × (b.seen ≡ o) → ⊥))
-    → get_or (lacking_less L (place_at (limits_of g) b) b.weight) (a * g.shape.observations + o) (pos 0) ≡ get_or m a (pos 0) -ℤ weight_at (b ∷ back) a o
+    → get_or (lacking_less L (pair_at (limits_of g) b) b.weight) (a * g.shape.observations + o) (pos 0) ≡ get_or m a (pos 0) -ℤ weight_at (b ∷ back) a o
 lack_each g m back L b s k lb lo a o la l (inl e) =
     let n = g.shape.observations in
-    let p = place_at (limits_of g) b in
+    let p = pair_at (limits_of g) b in
     let q : a * n + o ≡ p = ap (λ (x : ℕ). x * n + o) (sym e.0) ∙ ap (λ (x : ℕ). b.own * n + x) (sym e.1) in
-    let inside : p < length L = omega (arith, k.long, places_few g s, cell_below b.own g.shape.own_actions b.seen n lb lo) in
+    let inside : p < length L = omega (arith, k.long, pairs_few g s, cell_below b.own g.shape.own_actions b.seen n lb lo) in
     let new = ap (λ (x : ℕ). get_or (lacking_less L p b.weight) x (pos 0)) q ∙ get_or-set_same L p (get_or L p (pos 0) -ℤ b.weight) (pos 0) inside in
     let old : get_or L p (pos 0) ≡ get_or m a (pos 0) -ℤ weight_at back a o = ap (λ (x : ℕ). get_or L x (pos 0)) (sym q) ∙ k.each a o la l in
     omega (arith, ints, new, old, weight_hit b back a o (both_true b a o e.0 e.1))
 lack_each g m back L b s k lb lo a o la l (inr differ) =
     let n = g.shape.observations in
-    let p = place_at (limits_of g) b in
+    let p = pair_at (limits_of g) b in
     let apart : a * n + o ≢ p = λ q. differ (sym (cell_own a o b.own b.seen n l lo q), sym (cell_seen a o b.own b.seen n l lo q)) in
     let new = get_or-set_other L p (a * n + o) (get_or L p (pos 0) -ℤ b.weight) (pos 0) apart in
     omega (arith, ints, new, k.each a o la l, weight_miss b back a o (one_false b a o differ))
@@ -119,10 +120,10 @@ same_or_not b a o = elim (eqb_tells b.own a) [
 ]
 
 pub lacks_more : (g : GameData) (m : List ℤ) (back : List Branch) (L : List ℤ) (b : Branch) → IsShape g.shape → Lacks g m back L → b.own < g.shape.own_actions → b.seen < g.shape.observations
-    → Lacks g m (b ∷ back) (lacking_less L (place_at (limits_of g) b) b.weight)
+    → Lacks g m (b ∷ back) (lacking_less L (pair_at (limits_of g) b) b.weight)
 lacks_more g m back L b s k lb lo =
     let n = g.shape.observations in
-    let p = place_at (limits_of g) b in
+    let p = pair_at (limits_of g) b in
     record {
       long = length-set L p (get_or L p (pos 0) -ℤ b.weight) ∙ k.long;
       each = λ a o la l. lack_each g m back L b s k lb lo a o la l (same_or_not b a o);
@@ -145,7 +146,7 @@ branches_more g members most back b k h f = record { falls = (h, k.falls); each 
 pub are_branches : (g : GameData) (members : ℕ) (most : ℤ) (back : List Branch) → BranchesFit g members most back → AreBranches (numbers g) members most (reverse back)
 are_branches g members most back k = record { rising = rising_reverse back k.falls; each = each_reverse (IsBranch (numbers g) members most) back k.each }
 
--- a node whose places lack nothing fits
+-- a node whose pairs lack nothing fits
 pub node_fits : (g : GameData) (h : Head) (v m : List ℤ) (back : List Branch) (L : List ℤ) → StepsFit g h v m back L → AllByRecursion IsNone L → NodeFits g h.nodes (node_from v m back)
 node_fits g h v m back L k none = record {
   long = k.vector.long;
@@ -202,7 +203,7 @@ mixes_text_more g s w more long short =
     let last : new s ≡ line_of (codes "mix") (pos s ∷ more) =
     ap (λ (ns : List ℤ). line_of (codes "mix") (pos s ∷ ns))
     (map_below (λ c. get_or (w ++ more) (s * n + c) (pos 0)) (λ c. get_or more c (pos 0)) n (λ c lc. row_new w more s n c long)
-    ∙ ap (λ (x : ℕ). map (λ c. get_or more c (pos 0)) (below x)) (sym short) ∙ map_places (pos 0) more) in
+    ∙ ap (λ (x : ℕ). map (λ c. get_or more c (pos 0)) (below x)) (sym short) ∙ map_indices (pos 0) more) in
     ap (λ (x : ℕ). flat_map new (below x)) e ∙ flat_push new s ∙ ap (λ (l : List ℕ). l ++ new s) (flat_below new old s kept) ∙ ap (λ (l : List ℕ). flat_map old (below s) ++ l) last
 
 -- a point with the mixes of all states fits

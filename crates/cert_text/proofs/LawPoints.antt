@@ -1,5 +1,6 @@
 -- The lines of the points of a certificate that fits are said.
 use Rattle.std.proofs.Common.{◌≡◌, ℕ, zero, suc, ◌+◌, ◌*◌, ◌^◌, ◌<◌, ◌≤◌, List, [], ◌∷◌, ◌++◌, length, take, drop, get_or, Ok, ℤ, pos, refl, sym, ap, subst, ◌∙◌, arith, append_assoc, append-nil}
+use Rattle.game_model.specs.Limits.{most_belief}
 use Rattle.std.specs.Prelude.{codes}
 use Rattle.std.specs.List.{AllByRecursion}
 use Rattle.std.proofs.lemmas.List.{get_or-take, length-take-le, length-drop, take-append-drop}
@@ -18,7 +19,7 @@ use Rattle.cert_text.proofs.LawGuards.{IsLater}
 use Rattle.cert_text.proofs.LawSaid.{words_in, branch_numbers, belief-to, value-to, mixes-to, in_mixes-mix, in_mixes-past, in_point-split, in_point-point, in_point-end, BranchFits, BeliefFits, MixFits, ValueFits}
 use Rattle.cert_text.proofs.LawLists.{HeadBefore, length_more}
 use Rattle.cert_text.proofs.LawParts.{row_new}
-use Rattle.cert_text.proofs.LawStages.{Head, AtPoint, AtBelief, AtMixes, AtSplits, AtEnd, place_of, latest_share, made_head, mixes_from, point_from, Known, PointsFit, PartFits, BranchesFit}
+use Rattle.cert_text.proofs.LawStages.{Head, AtPoint, AtBelief, AtMixes, AtSplits, AtEnd, progress_of, latest_share, made_head, mixes_from, point_from, Known, PointsFit, PartFits, BranchesFit}
 use Rattle.cert_text.proofs.LawSteps.{step_belief, step_value, step_mix, step_split, step_further, step_end}
 use Rattle.cert_text.proofs.LawWrites.{Can, can_step, small_few, small_each, small_value, small_branch, numbered_written, word_point, word_belief, word_value, word_mix, word_split, word_end}
 use Rattle.cert_text.proofs.LawNodes.{onto, onto_reverse, GoesOn, goes_further, goes_first}
@@ -52,10 +53,10 @@ row_is g s w rest long enough =
     ∙ total-below n (λ c. get_or more c (pos 0)) (λ c. get_or (w ++ rest) (s * n + c) (pos 0)) (λ c l. get_or-take n rest c (pos 0) l ∙ sym (row_new w rest s n c long))
 
 mixes_entry : (g : GameData) (h : Head) (ns : List NodeData) (ps : List PointData) (b : List ℤ) (v : ℤ) (s : ℕ) (w L more : List ℤ) → AllByRecursion Small (pos s ∷ more) → MixFits g.shape.informed_actions more → s < g.shape.states
-    → entry_of (place_of g (AtMixes h ns ps b v s w L)) (words_in (Mixes s more)) ≡ Ok (Mixes s more)
+    → entry_of (progress_of g (AtMixes h ns ps b v s w L)) (words_in (Mixes s more)) ≡ Ok (Mixes s more)
 unfolding entry_after
 mixes_entry g h ns ps b v zero w L more small f l = mixes-to (limits_of g) 0 more small f
-mixes_entry g h ns ps b v (suc s) w L more small f l = in_mixes-mix (place_of g (AtMixes h ns ps b v (suc s) w L)) more small f l
+mixes_entry g h ns ps b v (suc s) w L more small f l = in_mixes-mix (progress_of g (AtMixes h ns ps b v (suc s) w L)) more small f l
 
 abbrev AfterMixes : GameData → CertificateData → Head → List NodeData → List PointData → List ℤ → ℤ → List ℤ → ℕ → List ℤ → Type 0
 AfterMixes g k h ns ps b v L s w = PartFits g b v s w → Can g (AtMixes h ns ps b v s w L) k
@@ -91,9 +92,9 @@ shares_next g k h ns ps b v w L (suc s) some c = (c.0, record { say = c.1.say; w
 -- ---- the shares
 
 in_shares : (g : GameData) (h : Head) (ns : List NodeData) (ps : List PointData) (b : List ℤ) (v : ℤ) (w : List ℤ) (back : List Branch) (L : List ℤ) (line : Line) (e : Entry)
-    → in_point (place_of g (AtSplits h ns ps b v w back g.shape.states L)) line ≡ Ok e → entry_of (place_of g (AtSplits h ns ps b v w back g.shape.states L)) line ≡ Ok e
+    → in_point (progress_of g (AtSplits h ns ps b v w back g.shape.states L)) line ≡ Ok e → entry_of (progress_of g (AtSplits h ns ps b v w back g.shape.states L)) line ≡ Ok e
 unfolding entry_after
-in_shares g h ns ps b v w [] L line e p = in_mixes-past (place_of g (AtSplits h ns ps b v w [] g.shape.states L)) line e (omega arith) p
+in_shares g h ns ps b v w [] L line e p = in_mixes-past (progress_of g (AtSplits h ns ps b v w [] g.shape.states L)) line e (omega arith) p
 in_shares g h ns ps b v w (d ∷ back) L line e p = p
 
 share_later : (back : List Branch) (b : Branch) → HeadBefore back b → IsLater (latest_share back) b.own b.seen b.member
@@ -112,22 +113,22 @@ shares_can g k h ns ps b v w L [] back game before part shares on f next = next 
 shares_can g k h ns ps b v w L (d ∷ rest) back game before part shares on f next =
     let s = AtSplits h ns ps b v w back g.shape.states L in
     let small = small_branch g h.points most_share d game before.nodes.head.sizes.most_points (omega arith) f.0 in
-    let fits : BranchFits most_share h.points (place_of g s) d = record { own = f.0.own; seen = f.0.seen; member = f.0.member; weight = f.0.weight; later = share_later back d on.0 } in
+    let fits : BranchFits most_share h.points (progress_of g s) d = record { own = f.0.own; seen = f.0.seen; member = f.0.member; weight = f.0.weight; later = share_later back d on.0 } in
     can_step g s (Split d) (AtSplits h ns ps b v w (d ∷ back) g.shape.states L) k
     (step_split g h ns ps b v w back g.shape.states L d before part shares refl fits)
-    (in_shares g h ns ps b v w back L (words_in (Split d)) (Split d) (in_point-split (place_of g s) d small fits))
+    (in_shares g h ns ps b v w back L (words_in (Split d)) (Split d) (in_point-split (progress_of g s) d small fits))
     (numbered_written (codes "split") (branch_numbers d) word_split small)
     (λ known. shares_can g k h ns ps b v w L rest (d ∷ back) game before part known.2 (goes_further back d rest on) f.1 next)
 
 -- ---- a point
 
 belief_entry : (g : GameData) (h : Head) (ns : List NodeData) (ps : List PointData) (b L : List ℤ) (sum : ℤ) → AllByRecursion Small b → BeliefFits g.shape.states b
-    → entry_of (place_of g (AtPoint h ns ps L sum)) (words_in (Belief b)) ≡ Ok (Belief b)
+    → entry_of (progress_of g (AtPoint h ns ps L sum)) (words_in (Belief b)) ≡ Ok (Belief b)
 unfolding entry_after
 belief_entry g h ns ps b L sum small f = belief-to (limits_of g) b small f
 
 value_entry : (g : GameData) (h : Head) (ns : List NodeData) (ps : List PointData) (b : List ℤ) (v : ℤ) (L : List ℤ) → Small v → ValueFits (limits_of g) (sum_of b) v
-    → entry_of (place_of g (AtBelief h ns ps b L)) (words_in (Value v)) ≡ Ok (Value v)
+    → entry_of (progress_of g (AtBelief h ns ps b L)) (words_in (Value v)) ≡ Ok (Value v)
 unfolding entry_after
 value_entry g h ns ps b v L small f = value-to (limits_of g) (sum_of b) v small f
 
@@ -151,7 +152,7 @@ point_can g k h ns ps p L sum game before f next =
     let v = p.value in
     let w = p.mixes.weights in
     let bf : BeliefFits g.shape.states b = record { long = f.belief.long; each = f.belief.each; sums = f.belief.sums; coprime = f.coprime } in
-    let bs = small_each (pos 0) (pos (2 ^ 20)) b (omega arith) (omega arith) f.belief.each in
+    let bs = small_each (pos 0) (pos most_belief) b (omega arith) (omega arith) f.belief.each in
     let vs = small_value g b v game f.belief.sums f.value in
     let mixes : AreMixes (mixes_from g w) = subst AreMixes (their_mixes g p h.points f) f.mixes in
     can_step g (AtPoint h ns ps L sum) (Belief b) (AtBelief h ns ps b L) k (step_belief g h ns ps b L sum (before, bf)) (belief_entry g h ns ps b L sum bs bf) (numbered_written (codes "belief") b word_belief bs)
@@ -177,7 +178,7 @@ to_further g k h ns ps p L before f part shares more next =
     let small : Small (pos (length ps + 1)) = small_few (length ps + 1) (omega (arith, more, before.nodes.head.sizes.most_points)) in
     can_step g s (Point (length ps + 1)) (AtPoint h ns (ps ++ point_from g b v w back ∷ []) L (sum_of b)) k
     (step_further g h ns ps b v w back g.shape.states L before part shares more)
-    (in_shares g h ns ps b v w back L (words_in (Point (length ps + 1))) (Point (length ps + 1)) (in_point-point (place_of g s) small more))
+    (in_shares g h ns ps b v w back L (words_in (Point (length ps + 1))) (Point (length ps + 1)) (in_point-point (progress_of g s) small more))
     (numbered_written (codes "point") (pos (length ps + 1) ∷ []) word_point (small, tt))
     (subst (AfterPoint g k h ns ps L (sum_of b)) (sym (point_again g p h.points f)) next)
 
@@ -192,7 +193,7 @@ to_end g k h ns ps p L before f part shares last made =
     let s = AtSplits h ns ps b v w back g.shape.states L in
     can_step g s End (AtEnd h ns (ps ++ point_from g b v w back ∷ []) g.shape.states L (sum_of b)) k
     (step_end g h ns ps b v w back g.shape.states L before part shares last)
-    (in_shares g h ns ps b v w back L (words_in End) End (in_point-end (place_of g s) last))
+    (in_shares g h ns ps b v w back L (words_in End) End (in_point-end (progress_of g s) last))
     (numbered_written (codes "end") [] word_end tt)
     (λ known. ([], record { say = tt; written = tt; end = refl; made = ap (λ (x : PointData). made_head h ns (ps ++ x ∷ [])) (point_again g p h.points f) ∙ made }))
 

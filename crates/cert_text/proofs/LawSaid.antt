@@ -1,6 +1,6 @@
 -- What a line says, and the words of a line that says it.
-use Rattle.game_model.specs.Limits.{most_members}
 use Rattle.std.proofs.Common.{◌≡◌, ℕ, ◌+◌, ◌^◌, ◌<◌, ◌≤◌, Bool, true, false, cond, List, [], ◌∷◌, length, take, drop, Result, Ok, ℤ, pos, refl, ap, subst, ◌∙◌, arith, inl, inr, ◌⊎◌}
+use Rattle.game_model.specs.Limits.{most_belief, most_members}
 use Rattle.std.specs.Prelude.{◌≤ℤ◌, ◌*ℤ◌, neg_ℤ, codes, nat_lt, slice_index_or}
 use Rattle.std.specs.List.{AllByRecursion}
 use Rattle.std.proofs.lemmas.Int.{ints}
@@ -14,16 +14,16 @@ use Rattle.text_words.proofs.Numerals.{Small, numbered, numbers_after-ok, number
 use Rattle.game_model.specs.Branches.{Branch, mix_total}
 use Rattle.game_model.specs.Game.{IsWithin, AreCoprime}
 use Rattle.point_set.specs.Points.{most_share}
-use Rattle.controller.specs.Certificates.{Ending, FractionData, IsShort}
+use Rattle.controller.specs.Certificates.{Ending, FractionData, IsShort, most_gap, most_gap_under}
 use Rattle.cert_text.specs.declared.fault.CertKind.{CertKind}
 use Rattle.cert_text.specs.declared.fault.CertKind.TheVariants as kinds
-use Rattle.cert_text.specs.declared.place.Limits.{Limits}
-use Rattle.cert_text.specs.declared.place.Place.{Place}
+use Rattle.cert_text.specs.declared.progress.Limits.{Limits}
+use Rattle.cert_text.specs.declared.progress.Progress.{Progress}
 use Rattle.cert_text.specs.Text.{outcome_word}
-use Rattle.cert_text.specs.Forms.{version_line, numbers_after, word_after, outcome_of, fraction_of, at_least, is_due, member_below, few, later_branch, sums_to_mix, most_belief, belief_total, none_lacks, fits_lack}
-use Rattle.cert_text.specs.Entries.{Entry, Version, Outcome, Gap, Lower, Upper, Tail, Sizes, Start, Node, Vector, Mix, Next, Point, Belief, Value, Mixes, Split, End, version_said, outcome_said, gap_said, bound_said, lower_said, upper_said, tail_said, sizes_said, start_said, node_said, vector_said, mix_said, branch_said, place_at, next_said, point_said, belief_said, value_within, value_said, mixes_said, split_said, end_said, in_node, in_point, in_mixes}
+use Rattle.cert_text.specs.Forms.{version_line, numbers_after, word_after, outcome_of, fraction_of, at_least, is_due, member_below, few, later_branch, sums_to_mix, belief_total, none_lacks, fits_lack}
+use Rattle.cert_text.specs.Entries.{Entry, Version, Outcome, Gap, Lower, Upper, Tail, Sizes, Start, Multiple, From, Over, Node, Vector, Mix, Next, Point, Belief, Value, Mixes, Split, End, version_said, outcome_said, gap_said, bound_said, lower_said, upper_said, tail_said, sizes_said, node_said, vector_said, mix_said, branch_said, pair_at, next_said, point_said, belief_said, value_within, value_said, mixes_said, split_said, end_said, in_node, in_point, in_mixes}
 use Rattle.cert_text.proofs.LawGuards.{IsLater, IsNone, at_least-ok, at_least-to, is_due-ok, is_due-to, member_below-ok, member_below-to, few-ok, few-to, later_branch-ok, later_branch-to, sums_to_mix-ok, sums_to_mix-to, belief_total-ok, belief_total-to, none_lacks-ok, none_lacks-to, fits_lack-ok, fits_lack-to}
-use Rattle.cert_text.proofs.LawWords.{word_after-ok, word_after-to, version_line-ok, version_line-to, outcome_of-ok, outcome_of-to, fraction_word, IsBrief, fraction_of-ok, fraction_of-to}
+use Rattle.cert_text.proofs.LawWords.{IsVersion, version_word_of, word_after-ok, word_after-to, version_line-ok, version_line-to, outcome_of-ok, outcome_of-to, fraction_word, IsBrief, fraction_of-ok, fraction_of-to}
 
 abbrev pub fraction_words : List ℕ → FractionData → Line
 fraction_words name f = name ∷ fraction_word f ∷ []
@@ -33,7 +33,7 @@ branch_numbers b = pos b.own ∷ pos b.seen ∷ pos b.member ∷ b.weight ∷ []
 
 -- the words of the line that says an entry
 abbrev pub words_in : Entry → Line
-words_in Version = codes "certificate" ∷ codes "1" ∷ []
+words_in (Version number) = codes "certificate" ∷ version_word_of number ∷ []
 words_in (Outcome ending) = codes "outcome" ∷ outcome_word ending ∷ []
 words_in (Gap f) = fraction_words (codes "gap") f
 words_in (Lower f) = fraction_words (codes "lower") f
@@ -41,6 +41,9 @@ words_in (Upper f) = fraction_words (codes "upper") f
 words_in (Tail f) = fraction_words (codes "tail") f
 words_in (Sizes nodes points) = numbered (codes "sizes") (pos nodes ∷ pos points ∷ [])
 words_in (Start node point) = numbered (codes "start") (pos node ∷ pos point ∷ [])
+words_in (Multiple multiple) = numbered (codes "multiple") (multiple ∷ [])
+words_in (From node weight) = numbered (codes "from") (pos node ∷ weight ∷ [])
+words_in (Over point weight) = numbered (codes "over") (pos point ∷ weight ∷ [])
 words_in (Node number) = numbered (codes "node") (pos number ∷ [])
 words_in (Vector entries) = numbered (codes "vector") entries
 words_in (Mix weights) = numbered (codes "mix") weights
@@ -52,10 +55,10 @@ words_in (Mixes state weights) = numbered (codes "mix") (pos state ∷ weights)
 words_in (Split b) = numbered (codes "split") (branch_numbers b)
 words_in End = numbered (codes "end") []
 
-abbrev done : Entry → Result Entry CertKind
+abbrev pub done : Entry → Result Entry CertKind
 done e = Ok e
 
-said_is : (x e : Entry) → done x ≡ done e → e ≡ x
+pub said_is : (x e : Entry) → done x ≡ done e → e ≡ x
 said_is x e h = cc
 
 -- the line says this entry, in its words
@@ -64,15 +67,16 @@ Is line e x = (e ≡ x) × (line ≡ words_in x)
 
 -- ---- the lines before the nodes
 
-pub version-ok : (line : Line) (e : Entry) → version_said line ≡ Ok e → Is line e Version
+pub version-ok : (line : Line) (e : Entry) → version_said line ≡ Ok e → (number : ℕ) × Is line e (Version number) × IsVersion number
 unfolding version_said
 version-ok line e h =
     let p = bind_ok (version_line line) _ e h in
-    (said_is Version e p.2, version_line-ok line p.0 p.1)
+    let v = version_line-ok line p.0 p.1 in
+    (p.0, (said_is (Version p.0) e p.2, v.1), v.0)
 
-pub version-to : version_said (words_in Version) ≡ Ok Version
+pub version-to : (number : ℕ) → IsVersion number → version_said (words_in (Version number)) ≡ Ok (Version number)
 unfolding version_said
-version-to = rw version_line-to refl
+version-to number is = rw (version_line-to number is) refl
 
 pub outcome-ok : (line : Line) (e : Entry) → outcome_said line ≡ Ok e → (ending : Ending) × Is line e (Outcome ending)
 unfolding outcome_said
@@ -86,7 +90,7 @@ unfolding outcome_said
 outcome-to ending = rw (word_after-to (codes "outcome") (outcome_word ending), outcome_of-to ending) refl
 
 abbrev pub GapFits : FractionData → Type 0
-GapFits f = IsWithin (pos 0) (pos (2 ^ 40)) f.num × IsWithin (pos 1) (pos (2 ^ 20)) f.den
+GapFits f = IsWithin (pos 0) (pos most_gap) f.num × IsWithin (pos 1) (pos most_gap_under) f.den
 
 fraction_again : (name : List ℕ) (line : Line) (word : List ℕ) (f : FractionData) (num den : ℤ) → line ≡ name ∷ word ∷ [] → word ≡ fraction_word f → f.num ≡ num → f.den ≡ den
     → line ≡ fraction_words name (record { num = num; den = den })
@@ -99,10 +103,10 @@ unfolding gap_said
 gap-ok line e h =
     let w = bind_ok (word_after (codes "gap") line) _ e h in
     let f = bind_ok (fraction_of w.0) _ e w.2 in
-    let n = bind_ok (limited kinds.Range (pos 0) (pos (2 ^ 40)) f.0.num) _ e f.2 in
-    let d = bind_ok (limited kinds.Range (pos 1) (pos (2 ^ 20)) f.0.den) _ e n.2 in
-    let n' = limited-ok kinds.Range (pos 0) (pos (2 ^ 40)) f.0.num n.0 n.1 in
-    let d' = limited-ok kinds.Range (pos 1) (pos (2 ^ 20)) f.0.den d.0 d.1 in
+    let n = bind_ok (limited kinds.Range (pos 0) (pos most_gap) f.0.num) _ e f.2 in
+    let d = bind_ok (limited kinds.Range (pos 1) (pos most_gap_under) f.0.den) _ e n.2 in
+    let n' = limited-ok kinds.Range (pos 0) (pos most_gap) f.0.num n.0 n.1 in
+    let d' = limited-ok kinds.Range (pos 1) (pos most_gap_under) f.0.den d.0 d.1 in
     let g : FractionData = record { num = n.0; den = d.0 } in
     (g, (said_is (Gap g) e d.2, fraction_again (codes "gap") line w.0 f.0 n.0 d.0 (word_after-ok (codes "gap") line w.0 w.1) (fraction_of-ok w.0 f.0 f.1).0 n'.1 d'.1), (n'.0, d'.0))
 
@@ -110,7 +114,7 @@ pub gap-to : (f : FractionData) → IsBrief f → GapFits f → gap_said (words_
 unfolding gap_said
 gap-to f brief fits =
     rw (word_after-to (codes "gap") (fraction_word f)) (rw (fraction_of-to f brief)
-    (rw (limited-to kinds.Range (pos 0) (pos (2 ^ 40)) f.num fits.0, limited-to kinds.Range (pos 1) (pos (2 ^ 20)) f.den fits.1) refl))
+    (rw (limited-to kinds.Range (pos 0) (pos most_gap) f.num fits.0, limited-to kinds.Range (pos 1) (pos most_gap_under) f.den fits.1) refl))
 
 abbrev whole : FractionData → Result FractionData CertKind
 whole x = Ok x
@@ -208,29 +212,6 @@ sizes-to states nodes points f =
     (rw (at_least-to (pos 1) (pos nodes) (omega (arith, ints, f.some_node)), at_least-to (pos states) (pos points) (omega (arith, ints, f.some_points)))
     (rw (few-to nodes f.most_nodes, few-to points f.most_points) refl))
 
-pub start-ok : (nodes points : ℕ) (line : Line) (e : Entry) → start_said nodes points line ≡ Ok e → (node : ℕ) × (point : ℕ) × Is line e (Start node point) × ((node < nodes) × (point < points))
-unfolding start_said
-start-ok nodes points line e h =
-    let ns = bind_ok (numbers_after (codes "start") 2 line) _ e h in
-    let i = bind_ok (at_least (pos 0) (number_at ns.0 0)) _ e ns.2 in
-    let j = bind_ok (at_least (pos 0) (number_at ns.0 1)) _ e i.2 in
-    let n = bind_ok (member_below nodes i.0) _ e j.2 in
-    let p = bind_ok (member_below points j.0) _ e n.2 in
-    let w = numbers_after-ok kinds.Shape kinds.Number (codes "start") 2 line ns.0 ns.1 in
-    let i' = at_least-ok (pos 0) (number_at ns.0 0) i.0 i.1 in
-    let j' = at_least-ok (pos 0) (number_at ns.0 1) j.0 j.1 in
-    let a = member_below-ok nodes i.0 n.0 i'.0 n.1 in
-    let b = member_below-ok points j.0 p.0 j'.0 p.1 in
-    let all = two_are ns.0 (pos n.0) (pos p.0) w.1 (i'.1 ∙ a.1) (j'.1 ∙ b.1) in
-    (n.0, p.0, (said_is (Start n.0 p.0) e p.2, w.0 ∙ ap (λ (xs : List ℤ). numbered (codes "start") xs) all), (a.0, b.0))
-
-pub start-to : (nodes points node point : ℕ) → AllByRecursion Small (pos node ∷ pos point ∷ []) → node < nodes → point < points → start_said nodes points (words_in (Start node point)) ≡ Ok (Start node point)
-unfolding start_said
-start-to nodes points node point small a b =
-    rw (numbers_after-to kinds.Shape kinds.Number (codes "start") 2 (pos node ∷ pos point ∷ []) refl small)
-    (rw (at_least-to (pos 0) (pos node) (omega (arith, ints)), at_least-to (pos 0) (pos point) (omega (arith, ints)))
-    (rw (member_below-to nodes node a, member_below-to points point b) refl))
-
 -- ---- the lines of a node
 
 pub node-ok : (number : ℕ) (lacking : List ℤ) (line : Line) (e : Entry) → node_said number lacking line ≡ Ok e → Is line e (Node number) × AllByRecursion IsNone lacking
@@ -284,12 +265,12 @@ unfolding mix_said
 mix-to limits ns small f =
     rw (numbers_after-to kinds.Shape kinds.Number (codes "mix") limits.own_actions ns f.long small) (rw (each_within-to kinds.Range (pos 0) (pos mix_total) ns f.each, sums_to_mix-to ns f.sums) refl)
 
-pub record BranchFits (most : ℤ) (members : ℕ) (place : Place) (b : Branch) : Type 0 where
-  pub own : b.own < place.limits.own_actions
-  pub seen : b.seen < place.limits.observations
+pub record BranchFits (most : ℤ) (members : ℕ) (progress : Progress) (b : Branch) : Type 0 where
+  pub own : b.own < progress.limits.own_actions
+  pub seen : b.seen < progress.limits.observations
   pub member : b.member < members
   pub weight : IsWithin (pos 1) most b.weight
-  pub later : IsLater place.latest b.own b.seen b.member
+  pub later : IsLater progress.latest b.own b.seen b.member
 
 abbrev one : Branch → Result Branch CertKind
 one x = Ok x
@@ -297,69 +278,69 @@ one x = Ok x
 branch_is : (x y : Branch) → one x ≡ one y → x ≡ y
 branch_is x y e = cc
 
-branch-ok : (name : List ℕ) (most : ℤ) (members : ℕ) (place : Place) (line : Line) (b : Branch) → branch_said name most members place line ≡ Ok b
-    → (line ≡ numbered name (branch_numbers b)) × BranchFits most members place b
+branch-ok : (name : List ℕ) (most : ℤ) (members : ℕ) (progress : Progress) (line : Line) (b : Branch) → branch_said name most members progress line ≡ Ok b
+    → (line ≡ numbered name (branch_numbers b)) × BranchFits most members progress b
 unfolding branch_said
-branch-ok name most members place line b h =
+branch-ok name most members progress line b h =
     let ns = bind_ok (numbers_after name 4 line) _ b h in
-    let own = bind_ok (below_limit kinds.Range place.limits.own_actions (number_at ns.0 0)) _ b ns.2 in
-    let seen = bind_ok (below_limit kinds.Range place.limits.observations (number_at ns.0 1)) _ b own.2 in
+    let own = bind_ok (below_limit kinds.Range progress.limits.own_actions (number_at ns.0 0)) _ b ns.2 in
+    let seen = bind_ok (below_limit kinds.Range progress.limits.observations (number_at ns.0 1)) _ b own.2 in
     let k = bind_ok (at_least (pos 0) (number_at ns.0 2)) _ b seen.2 in
     let weight = bind_ok (limited kinds.Range (pos 1) most (number_at ns.0 3)) _ b k.2 in
-    let later = bind_ok (later_branch place.latest own.0 seen.0 k.0) _ b weight.2 in
+    let later = bind_ok (later_branch progress.latest own.0 seen.0 k.0) _ b weight.2 in
     let member = bind_ok (member_below members k.0) _ b later.2 in
     let w = numbers_after-ok kinds.Shape kinds.Number name 4 line ns.0 ns.1 in
-    let own' = below_limit-ok kinds.Range place.limits.own_actions (number_at ns.0 0) own.0 own.1 in
-    let seen' = below_limit-ok kinds.Range place.limits.observations (number_at ns.0 1) seen.0 seen.1 in
+    let own' = below_limit-ok kinds.Range progress.limits.own_actions (number_at ns.0 0) own.0 own.1 in
+    let seen' = below_limit-ok kinds.Range progress.limits.observations (number_at ns.0 1) seen.0 seen.1 in
     let k' = at_least-ok (pos 0) (number_at ns.0 2) k.0 k.1 in
     let weight' = limited-ok kinds.Range (pos 1) most (number_at ns.0 3) weight.0 weight.1 in
     let member' = member_below-ok members k.0 member.0 k'.0 member.1 in
     let all = four_are ns.0 (pos own.0) (pos seen.0) (pos member.0) weight.0 w.1 own'.1 seen'.1 (k'.1 ∙ member'.1) weight'.1 in
     let d : Branch = record { own = own.0; seen = seen.0; member = member.0; weight = weight.0 } in
-    let fits : BranchFits most members place d = record {
+    let fits : BranchFits most members progress d = record {
       own = own'.0;
       seen = seen'.0;
       member = member'.0;
       weight = weight'.0;
-      later = later_branch-ok place.latest own.0 seen.0 member.0 later.0 (subst (λ (x : ℤ). later_branch place.latest own.0 seen.0 x ≡ Ok later.0) member'.1 later.1);
+      later = later_branch-ok progress.latest own.0 seen.0 member.0 later.0 (subst (λ (x : ℤ). later_branch progress.latest own.0 seen.0 x ≡ Ok later.0) member'.1 later.1);
     } in
-    subst (λ (x : Branch). (line ≡ numbered name (branch_numbers x)) × BranchFits most members place x) (branch_is d b member.2) (w.0 ∙ ap (λ (xs : List ℤ). numbered name xs) all, fits)
+    subst (λ (x : Branch). (line ≡ numbered name (branch_numbers x)) × BranchFits most members progress x) (branch_is d b member.2) (w.0 ∙ ap (λ (xs : List ℤ). numbered name xs) all, fits)
 
-branch-to : (name : List ℕ) (most : ℤ) (members : ℕ) (place : Place) (b : Branch) → AllByRecursion Small (branch_numbers b) → BranchFits most members place b
-    → branch_said name most members place (numbered name (branch_numbers b)) ≡ Ok b
+branch-to : (name : List ℕ) (most : ℤ) (members : ℕ) (progress : Progress) (b : Branch) → AllByRecursion Small (branch_numbers b) → BranchFits most members progress b
+    → branch_said name most members progress (numbered name (branch_numbers b)) ≡ Ok b
 unfolding branch_said
-branch-to name most members place b small f =
+branch-to name most members progress b small f =
     rw (numbers_after-to kinds.Shape kinds.Number name 4 (branch_numbers b) refl small)
-    (rw (below_limit-to kinds.Range place.limits.own_actions b.own f.own, below_limit-to kinds.Range place.limits.observations b.seen f.seen, at_least-to (pos 0) (pos b.member) (omega (arith, ints)), limited-to kinds.Range (pos 1) most b.weight f.weight)
-    (rw (later_branch-to place.latest b.own b.seen b.member f.later, member_below-to members b.member f.member) refl))
+    (rw (below_limit-to kinds.Range progress.limits.own_actions b.own f.own, below_limit-to kinds.Range progress.limits.observations b.seen f.seen, at_least-to (pos 0) (pos b.member) (omega (arith, ints)), limited-to kinds.Range (pos 1) most b.weight f.weight)
+    (rw (later_branch-to progress.latest b.own b.seen b.member f.later, member_below-to members b.member f.member) refl))
 
-pub record NextFits (place : Place) (b : Branch) : Type 0 where
-  pub branch : BranchFits (pos mix_total) place.nodes place b
-  pub earlier : AllByRecursion IsNone (take (place_at place.limits b) place.lacking)
-  pub room : b.weight ≤ℤ slice_index_or place.lacking (place_at place.limits b) (pos 0)
+pub record NextFits (progress : Progress) (b : Branch) : Type 0 where
+  pub branch : BranchFits (pos mix_total) progress.nodes progress b
+  pub earlier : AllByRecursion IsNone (take (pair_at progress.limits b) progress.lacking)
+  pub room : b.weight ≤ℤ slice_index_or progress.lacking (pair_at progress.limits b) (pos 0)
 
-pub next-ok : (place : Place) (line : Line) (e : Entry) → next_said place line ≡ Ok e → (b : Branch) × Is line e (Next b) × NextFits place b
+pub next-ok : (progress : Progress) (line : Line) (e : Entry) → next_said progress line ≡ Ok e → (b : Branch) × Is line e (Next b) × NextFits progress b
 unfolding next_said
-next-ok place line e h =
-    let b = bind_ok (branch_said (codes "next") (pos mix_total) place.nodes place line) _ e h in
-    let n = bind_ok (none_lacks (take (place_at place.limits b.0) place.lacking)) _ e b.2 in
-    let r = bind_ok (fits_lack (slice_index_or place.lacking (place_at place.limits b.0) (pos 0)) b.0.weight) _ e n.2 in
-    let p = branch-ok (codes "next") (pos mix_total) place.nodes place line b.0 b.1 in (
+next-ok progress line e h =
+    let b = bind_ok (branch_said (codes "next") (pos mix_total) progress.nodes progress line) _ e h in
+    let n = bind_ok (none_lacks (take (pair_at progress.limits b.0) progress.lacking)) _ e b.2 in
+    let r = bind_ok (fits_lack (slice_index_or progress.lacking (pair_at progress.limits b.0) (pos 0)) b.0.weight) _ e n.2 in
+    let p = branch-ok (codes "next") (pos mix_total) progress.nodes progress line b.0 b.1 in (
       b.0,
       (said_is (Next b.0) e r.2, p.0),
       record {
         branch = p.1;
-        earlier = none_lacks-ok (take (place_at place.limits b.0) place.lacking) n.0 n.1;
-        room = fits_lack-ok (slice_index_or place.lacking (place_at place.limits b.0) (pos 0)) b.0.weight r.0 r.1;
+        earlier = none_lacks-ok (take (pair_at progress.limits b.0) progress.lacking) n.0 n.1;
+        room = fits_lack-ok (slice_index_or progress.lacking (pair_at progress.limits b.0) (pos 0)) b.0.weight r.0 r.1;
       },
     )
 
-pub next-to : (place : Place) (b : Branch) → AllByRecursion Small (branch_numbers b) → NextFits place b → next_said place (words_in (Next b)) ≡ Ok (Next b)
+pub next-to : (progress : Progress) (b : Branch) → AllByRecursion Small (branch_numbers b) → NextFits progress b → next_said progress (words_in (Next b)) ≡ Ok (Next b)
 unfolding next_said
-next-to place b small f =
-    rw (branch-to (codes "next") (pos mix_total) place.nodes place b small f.branch)
-    (rw (none_lacks-to (take (place_at place.limits b) place.lacking) f.earlier)
-    (rw (fits_lack-to (slice_index_or place.lacking (place_at place.limits b) (pos 0)) b.weight f.room) refl))
+next-to progress b small f =
+    rw (branch-to (codes "next") (pos mix_total) progress.nodes progress b small f.branch)
+    (rw (none_lacks-to (take (pair_at progress.limits b) progress.lacking) f.earlier)
+    (rw (fits_lack-to (slice_index_or progress.lacking (pair_at progress.limits b) (pos 0)) b.weight f.room) refl))
 
 -- ---- the lines of a point
 
@@ -441,16 +422,16 @@ mixes-to limits state ns small f =
     rw (numbers_after-to kinds.Shape kinds.Number (codes "mix") (limits.informed_actions + 1) (pos state ∷ ns) (omega (arith, f.long)) small)
     (rw (each_within-to kinds.Range (pos 0) (pos mix_total) ns f.each) (rw (is_due-to state, sums_to_mix-to ns f.sums) refl))
 
-pub split-ok : (place : Place) (line : Line) (e : Entry) → split_said place line ≡ Ok e → (b : Branch) × Is line e (Split b) × BranchFits most_share place.points place b
+pub split-ok : (progress : Progress) (line : Line) (e : Entry) → split_said progress line ≡ Ok e → (b : Branch) × Is line e (Split b) × BranchFits most_share progress.points progress b
 unfolding split_said
-split-ok place line e h =
-    let b = bind_ok (branch_said (codes "split") most_share place.points place line) _ e h in
-    let p = branch-ok (codes "split") most_share place.points place line b.0 b.1 in
+split-ok progress line e h =
+    let b = bind_ok (branch_said (codes "split") most_share progress.points progress line) _ e h in
+    let p = branch-ok (codes "split") most_share progress.points progress line b.0 b.1 in
     (b.0, (said_is (Split b.0) e b.2, p.0), p.1)
 
-pub split-to : (place : Place) (b : Branch) → AllByRecursion Small (branch_numbers b) → BranchFits most_share place.points place b → split_said place (words_in (Split b)) ≡ Ok (Split b)
+pub split-to : (progress : Progress) (b : Branch) → AllByRecursion Small (branch_numbers b) → BranchFits most_share progress.points progress b → split_said progress (words_in (Split b)) ≡ Ok (Split b)
 unfolding split_said
-split-to place b small f = rw (branch-to (codes "split") most_share place.points place b small f) refl
+split-to progress b small f = rw (branch-to (codes "split") most_share progress.points progress b small f) refl
 
 pub end-ok : (line : Line) (e : Entry) → end_said line ≡ Ok e → Is line e End
 unfolding end_said
@@ -466,21 +447,21 @@ end-to = rw (numbers_after-to kinds.Shape kinds.Number (codes "end") 0 [] refl t
 -- ---- behind a node's steps, and behind a point's shares
 
 -- a further step, the next node, or the first point
-abbrev pub InNode : Place → Line → Entry → Type 0
-InNode place line e =
-    ((b : Branch) × Is line e (Next b) × NextFits place b)
-    ⊎ ((Is line e (Node place.begun) × (place.begun < place.nodes) × AllByRecursion IsNone place.lacking)
-    ⊎ (Is line e (Point 0) × (place.nodes ≤ place.begun) × AllByRecursion IsNone place.lacking))
+abbrev pub InNode : Progress → Line → Entry → Type 0
+InNode progress line e =
+    ((b : Branch) × Is line e (Next b) × NextFits progress b)
+    ⊎ ((Is line e (Node progress.begun) × (progress.begun < progress.nodes) × AllByRecursion IsNone progress.lacking)
+    ⊎ (Is line e (Point 0) × (progress.nodes ≤ progress.begun) × AllByRecursion IsNone progress.lacking))
 
-node_by : (place : Place) (line : Line) (e : Entry) (next more : Bool) → nat_lt place.begun place.nodes ≡ more
-    → cond next (next_said place line) (cond more (node_said place.begun place.lacking line) (point_said 0 place.lacking line)) ≡ Ok e → InNode place line e
-node_by place line e true more m h = inl (next-ok place line e h)
-node_by place line e false true m h = let p = node-ok place.begun place.lacking line e h in inr (inl (p.0, ltb-true place.begun place.nodes m, p.1))
-node_by place line e false false m h = let p = point-ok 0 place.lacking line e h in inr (inr (p.0, ltb-false place.begun place.nodes m, p.1))
+node_by : (progress : Progress) (line : Line) (e : Entry) (next more : Bool) → nat_lt progress.begun progress.nodes ≡ more
+    → cond next (next_said progress line) (cond more (node_said progress.begun progress.lacking line) (point_said 0 progress.lacking line)) ≡ Ok e → InNode progress line e
+node_by progress line e true more m h = inl (next-ok progress line e h)
+node_by progress line e false true m h = let p = node-ok progress.begun progress.lacking line e h in inr (inl (p.0, ltb-true progress.begun progress.nodes m, p.1))
+node_by progress line e false false m h = let p = point-ok 0 progress.lacking line e h in inr (inr (p.0, ltb-false progress.begun progress.nodes m, p.1))
 
-pub in_node-ok : (place : Place) (line : Line) (e : Entry) → in_node place line ≡ Ok e → InNode place line e
+pub in_node-ok : (progress : Progress) (line : Line) (e : Entry) → in_node progress line ≡ Ok e → InNode progress line e
 unfolding in_node
-in_node-ok place line e h = node_by place line e (begins (codes "next") line) (nat_lt place.begun place.nodes) refl h
+in_node-ok progress line e h = node_by progress line e (begins (codes "next") line) (nat_lt progress.begun progress.nodes) refl h
 
 lt_true : (a b : ℕ) → a < b → nat_lt a b ≡ true
 lt_true a b h = grind (arith, nat_tests)
@@ -488,65 +469,65 @@ lt_true a b h = grind (arith, nat_tests)
 lt_false : (a b : ℕ) → b ≤ a → nat_lt a b ≡ false
 lt_false a b h = grind (arith, nat_tests)
 
-pub in_node-next : (place : Place) (b : Branch) → AllByRecursion Small (branch_numbers b) → NextFits place b → in_node place (words_in (Next b)) ≡ Ok (Next b)
+pub in_node-next : (progress : Progress) (b : Branch) → AllByRecursion Small (branch_numbers b) → NextFits progress b → in_node progress (words_in (Next b)) ≡ Ok (Next b)
 unfolding in_node
-in_node-next place b small f = next-to place b small f
+in_node-next progress b small f = next-to progress b small f
 
-pub in_node-node : (place : Place) → Small (pos place.begun) → place.begun < place.nodes → AllByRecursion IsNone place.lacking → in_node place (words_in (Node place.begun)) ≡ Ok (Node place.begun)
+pub in_node-node : (progress : Progress) → Small (pos progress.begun) → progress.begun < progress.nodes → AllByRecursion IsNone progress.lacking → in_node progress (words_in (Node progress.begun)) ≡ Ok (Node progress.begun)
 unfolding in_node
-in_node-node place small l none = rw (lt_true place.begun place.nodes l) (node-to place.begun place.lacking small none)
+in_node-node progress small l none = rw (lt_true progress.begun progress.nodes l) (node-to progress.begun progress.lacking small none)
 
-pub in_node-point : (place : Place) → place.nodes ≤ place.begun → AllByRecursion IsNone place.lacking → in_node place (words_in (Point 0)) ≡ Ok (Point 0)
+pub in_node-point : (progress : Progress) → progress.nodes ≤ progress.begun → AllByRecursion IsNone progress.lacking → in_node progress (words_in (Point 0)) ≡ Ok (Point 0)
 unfolding in_node
-in_node-point place l none = rw (lt_false place.begun place.nodes l) (point-to 0 place.lacking (omega arith) none)
+in_node-point progress l none = rw (lt_false progress.begun progress.nodes l) (point-to 0 progress.lacking (omega arith) none)
 
 -- a further share, the next point, or the end
-abbrev pub InPoint : Place → Line → Entry → Type 0
-InPoint place line e =
-    ((b : Branch) × Is line e (Split b) × BranchFits most_share place.points place b)
-    ⊎ ((Is line e (Point place.begun) × (place.begun < place.points)) ⊎ (Is line e End × (place.points ≤ place.begun)))
+abbrev pub InPoint : Progress → Line → Entry → Type 0
+InPoint progress line e =
+    ((b : Branch) × Is line e (Split b) × BranchFits most_share progress.points progress b)
+    ⊎ ((Is line e (Point progress.begun) × (progress.begun < progress.points)) ⊎ (Is line e End × (progress.points ≤ progress.begun)))
 
-point_by : (place : Place) (line : Line) (e : Entry) (split more : Bool) → nat_lt place.begun place.points ≡ more
-    → cond split (split_said place line) (cond more (point_said place.begun [] line) (end_said line)) ≡ Ok e → InPoint place line e
-point_by place line e true more m h = inl (split-ok place line e h)
-point_by place line e false true m h = let p = point-ok place.begun [] line e h in inr (inl (p.0, ltb-true place.begun place.points m))
-point_by place line e false false m h = inr (inr (end-ok line e h, ltb-false place.begun place.points m))
+point_by : (progress : Progress) (line : Line) (e : Entry) (split more : Bool) → nat_lt progress.begun progress.points ≡ more
+    → cond split (split_said progress line) (cond more (point_said progress.begun [] line) (end_said line)) ≡ Ok e → InPoint progress line e
+point_by progress line e true more m h = inl (split-ok progress line e h)
+point_by progress line e false true m h = let p = point-ok progress.begun [] line e h in inr (inl (p.0, ltb-true progress.begun progress.points m))
+point_by progress line e false false m h = inr (inr (end-ok line e h, ltb-false progress.begun progress.points m))
 
-pub in_point-ok : (place : Place) (line : Line) (e : Entry) → in_point place line ≡ Ok e → InPoint place line e
+pub in_point-ok : (progress : Progress) (line : Line) (e : Entry) → in_point progress line ≡ Ok e → InPoint progress line e
 unfolding in_point
-in_point-ok place line e h = point_by place line e (begins (codes "split") line) (nat_lt place.begun place.points) refl h
+in_point-ok progress line e h = point_by progress line e (begins (codes "split") line) (nat_lt progress.begun progress.points) refl h
 
-pub in_point-split : (place : Place) (b : Branch) → AllByRecursion Small (branch_numbers b) → BranchFits most_share place.points place b → in_point place (words_in (Split b)) ≡ Ok (Split b)
+pub in_point-split : (progress : Progress) (b : Branch) → AllByRecursion Small (branch_numbers b) → BranchFits most_share progress.points progress b → in_point progress (words_in (Split b)) ≡ Ok (Split b)
 unfolding in_point
-in_point-split place b small f = split-to place b small f
+in_point-split progress b small f = split-to progress b small f
 
-pub in_point-point : (place : Place) → Small (pos place.begun) → place.begun < place.points → in_point place (words_in (Point place.begun)) ≡ Ok (Point place.begun)
+pub in_point-point : (progress : Progress) → Small (pos progress.begun) → progress.begun < progress.points → in_point progress (words_in (Point progress.begun)) ≡ Ok (Point progress.begun)
 unfolding in_point
-in_point-point place small l = rw (lt_true place.begun place.points l) (point-to place.begun [] small tt)
+in_point-point progress small l = rw (lt_true progress.begun progress.points l) (point-to progress.begun [] small tt)
 
-pub in_point-end : (place : Place) → place.points ≤ place.begun → in_point place (words_in End) ≡ Ok End
+pub in_point-end : (progress : Progress) → progress.points ≤ progress.begun → in_point progress (words_in End) ≡ Ok End
 unfolding in_point
-in_point-end place l = rw (lt_false place.begun place.points l) end-to
+in_point-end progress l = rw (lt_false progress.begun progress.points l) end-to
 
 -- the mix of a further state, or what may follow the last one
-abbrev pub InMixes : Place → Line → Entry → Type 0
-InMixes place line e =
-    ((ns : List ℤ) × Is line e (Mixes place.state ns) × MixFits place.limits.informed_actions ns × (place.state < place.limits.states))
-    ⊎ (InPoint place line e × (place.limits.states ≤ place.state))
+abbrev pub InMixes : Progress → Line → Entry → Type 0
+InMixes progress line e =
+    ((ns : List ℤ) × Is line e (Mixes progress.state ns) × MixFits progress.limits.informed_actions ns × (progress.state < progress.limits.states))
+    ⊎ (InPoint progress line e × (progress.limits.states ≤ progress.state))
 
-mixes_by : (place : Place) (line : Line) (e : Entry) (more : Bool) → nat_lt place.state place.limits.states ≡ more
-    → cond more (mixes_said place.limits place.state line) (in_point place line) ≡ Ok e → InMixes place line e
-mixes_by place line e true m h = let p = mixes-ok place.limits place.state line e h in inl (p.0, p.1, p.2, ltb-true place.state place.limits.states m)
-mixes_by place line e false m h = inr (in_point-ok place line e h, ltb-false place.state place.limits.states m)
+mixes_by : (progress : Progress) (line : Line) (e : Entry) (more : Bool) → nat_lt progress.state progress.limits.states ≡ more
+    → cond more (mixes_said progress.limits progress.state line) (in_point progress line) ≡ Ok e → InMixes progress line e
+mixes_by progress line e true m h = let p = mixes-ok progress.limits progress.state line e h in inl (p.0, p.1, p.2, ltb-true progress.state progress.limits.states m)
+mixes_by progress line e false m h = inr (in_point-ok progress line e h, ltb-false progress.state progress.limits.states m)
 
-pub in_mixes-ok : (place : Place) (line : Line) (e : Entry) → in_mixes place line ≡ Ok e → InMixes place line e
+pub in_mixes-ok : (progress : Progress) (line : Line) (e : Entry) → in_mixes progress line ≡ Ok e → InMixes progress line e
 unfolding in_mixes
-in_mixes-ok place line e h = mixes_by place line e (nat_lt place.state place.limits.states) refl h
+in_mixes-ok progress line e h = mixes_by progress line e (nat_lt progress.state progress.limits.states) refl h
 
-pub in_mixes-mix : (place : Place) (ns : List ℤ) → AllByRecursion Small (pos place.state ∷ ns) → MixFits place.limits.informed_actions ns → place.state < place.limits.states → in_mixes place (words_in (Mixes place.state ns)) ≡ Ok (Mixes place.state ns)
+pub in_mixes-mix : (progress : Progress) (ns : List ℤ) → AllByRecursion Small (pos progress.state ∷ ns) → MixFits progress.limits.informed_actions ns → progress.state < progress.limits.states → in_mixes progress (words_in (Mixes progress.state ns)) ≡ Ok (Mixes progress.state ns)
 unfolding in_mixes
-in_mixes-mix place ns small f l = rw (lt_true place.state place.limits.states l) (mixes-to place.limits place.state ns small f)
+in_mixes-mix progress ns small f l = rw (lt_true progress.state progress.limits.states l) (mixes-to progress.limits progress.state ns small f)
 
-pub in_mixes-past : (place : Place) (line : Line) (e : Entry) → place.limits.states ≤ place.state → in_point place line ≡ Ok e → in_mixes place line ≡ Ok e
+pub in_mixes-past : (progress : Progress) (line : Line) (e : Entry) → progress.limits.states ≤ progress.state → in_point progress line ≡ Ok e → in_mixes progress line ≡ Ok e
 unfolding in_mixes
-in_mixes-past place line e l h = rw (lt_false place.state place.limits.states l) h
+in_mixes-past progress line e l h = rw (lt_false progress.state progress.limits.states l) h

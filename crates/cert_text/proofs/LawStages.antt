@@ -1,6 +1,6 @@
--- The stages of a certificate in the making: the place, the certificate so far, its text so far, and what is known.
+-- The stages of a certificate in the making: how far the reading is, the certificate so far, its text so far, and what is known.
 use Rattle.std.proofs.Common.{◌≡◌, ℕ, zero, suc, ◌+◌, ◌*◌, ◌<◌, ◌≤◌, List, [], ◌∷◌, ◌++◌, reverse, length, ℤ, pos}
-use Rattle.std.specs.Prelude.{flat_map, replicate, ◌-ℤ◌, slice_index_or, codes}
+use Rattle.std.specs.Prelude.{flat_map, replicate, ◌-ℤ◌, ◌≤ℤ◌, slice_index_or, codes}
 use Rattle.std.specs.List.{AllByRecursion}
 use Rattle.scaled_num.specs.Sums.{below, sum_of, total}
 use Rattle.text_words.specs.Lines.{line_text}
@@ -10,10 +10,16 @@ use Rattle.alpha_set.specs.Nodes.{NodeData, NodeFits, no_node}
 use Rattle.belief.specs.Mixes.{MixesData, mix_at}
 use Rattle.point_set.specs.Points.{PointData, PointFits, most_share, no_point}
 use Rattle.controller.specs.Certificates.{CertificateData, CertificateFits, Ending, FractionData, IsShort}
-use Rattle.cert_text.specs.declared.place.Latest.{Latest}
-use Rattle.cert_text.specs.declared.place.Latest.TheVariants as latest
-use Rattle.cert_text.specs.declared.place.Place.{Place}
-use Rattle.cert_text.specs.Text.{line_of, fraction_line, outcome_word, node_text, mix_text, point_text}
+use Rattle.cert_text.specs.declared.progress.Latest.{Latest}
+use Rattle.cert_text.specs.declared.progress.Latest.TheVariants as latest
+use Rattle.cert_text.specs.declared.progress.Progress.{Progress}
+use Rattle.cert_text.specs.declared.progress.Starts.{Starts}
+use Rattle.cert_text.specs.Rules.{AreCoprimeStarts}
+use Rattle.controller.specs.Starts.{StartsFit, most_from, most_over, weights_sum}
+use Rattle.cert_text.proofs.LawWords.{version_word_of}
+use Rattle.cert_text.proofs.StartWeights.{Start, StartsSoFar, starts_of}
+use Rattle.cert_text.specs.Text.{start_line, starts_text, version_word, fraction_line, outcome_word, node_text, mix_text, point_text}
+use Rattle.text_words.specs.Spelled.{line_of}
 use Rattle.cert_text.specs.Entries.{limits_of, start_of}
 use Rattle.cert_text.specs.Made.{blank, new_point}
 use Rattle.cert_text.proofs.LawSaid.{GapFits, SizesFit, VectorFits, MixFits, BeliefFits, ValueFits}
@@ -28,19 +34,24 @@ pub record Head : Type 0 where
   pub tail : FractionData
   pub nodes : ℕ
   pub points : ℕ
-  pub node : ℕ
-  pub point : ℕ
+  pub version : ℕ
+  pub from : List Start
+  pub over : List Start
+  pub multiple : ℤ
+  pub started : Starts
 
--- The steps of a node, and the shares of a point, have the latest first.
+-- The starts, the steps of a node, and the shares of a point have the latest first.
 pub data Stage : Type 0 where
   AtNothing : Stage
-  AtVersion : Stage
-  AtOutcome : (o : Ending) → Stage
-  AtGap : (o : Ending) (gap : FractionData) → Stage
-  AtLower : (o : Ending) (gap lower : FractionData) → Stage
-  AtUpper : (o : Ending) (gap lower upper : FractionData) → Stage
-  AtTail : (o : Ending) (gap lower upper tail : FractionData) → Stage
-  AtSizes : (o : Ending) (gap lower upper tail : FractionData) (nodes points : ℕ) → Stage
+  AtVersion : (v : ℕ) → Stage
+  AtOutcome : (v : ℕ) (o : Ending) → Stage
+  AtGap : (v : ℕ) (o : Ending) (gap : FractionData) → Stage
+  AtLower : (v : ℕ) (o : Ending) (gap lower : FractionData) → Stage
+  AtUpper : (v : ℕ) (o : Ending) (gap lower upper : FractionData) → Stage
+  AtTail : (v : ℕ) (o : Ending) (gap lower upper tail : FractionData) → Stage
+  AtSizes : (v : ℕ) (o : Ending) (gap lower upper tail : FractionData) (nodes points : ℕ) → Stage
+  AtFrom : (h : Head) (back : List Start) → Stage
+  AtOver : (h : Head) (front back : List Start) → Stage
   AtStart : (h : Head) → Stage
   AtNode : (h : Head) (ns : List NodeData) (lacking : List ℤ) → Stage
   AtVector : (h : Head) (ns : List NodeData) (v lacking : List ℤ) → Stage
@@ -51,14 +62,15 @@ pub data Stage : Type 0 where
   AtSplits : (h : Head) (ns : List NodeData) (ps : List PointData) (b : List ℤ) (v : ℤ) (w : List ℤ) (back : List Branch) (s : ℕ) (lacking : List ℤ) → Stage
   AtEnd : (h : Head) (ns : List NodeData) (ps : List PointData) (s : ℕ) (lacking : List ℤ) (sum : ℤ) → Stage
 
--- ---- the place
+-- ---- how far the reading is
 
-abbrev pub placed : GameData → ℕ → ℕ → ℕ → Latest → ℕ → List ℤ → ℤ → Place
-placed g nodes points begun now state lacking sum = record {
+abbrev pub progress_with : GameData → Starts → ℕ → ℕ → ℕ → Latest → ℕ → List ℤ → ℤ → Progress
+progress_with g starts nodes points begun now state lacking sum = record {
   limits = limits_of g;
   latest = now;
   nodes = nodes;
   points = points;
+  starts = starts;
   begun = begun;
   state = state;
   lacking = lacking;
@@ -72,6 +84,22 @@ abbrev pub latest_step : List Branch → Latest
 latest_step [] = latest.Mix
 latest_step (b ∷ back) = latest.Next b.own b.seen b.member
 
+-- the number of the version, and no start yet
+abbrev pub fresh : ℕ → Starts
+fresh v = starts_of v [] []
+
+abbrev pub latest_from : List Start → Latest
+latest_from [] = latest.Multiple
+latest_from (s ∷ back) = latest.From s.0
+
+abbrev pub latest_over : List Start → Latest
+latest_over [] = latest.Multiple
+latest_over (s ∷ back) = latest.Over s.0
+
+-- the head with its starts
+abbrev pub with_starts : Head → List Start → List Start → Head
+with_starts h front back = record h { from = reverse front; over = reverse back; started = starts_of h.version front back }
+
 abbrev pub latest_mix : ℕ → Latest
 latest_mix zero = latest.Value
 latest_mix (suc s) = latest.Mixes
@@ -80,24 +108,26 @@ abbrev pub latest_share : List Branch → Latest
 latest_share [] = latest.Mixes
 latest_share (b ∷ back) = latest.Split b.own b.seen b.member
 
-abbrev pub place_of : GameData → Stage → Place
-place_of g AtNothing = start_of g
-place_of g AtVersion = placed g 0 0 0 latest.Version 0 zeros (pos 0)
-place_of g (AtOutcome o) = placed g 0 0 0 latest.Outcome 0 zeros (pos 0)
-place_of g (AtGap o gap) = placed g 0 0 0 latest.Gap 0 zeros (pos 0)
-place_of g (AtLower o gap lower) = placed g 0 0 0 latest.Lower 0 zeros (pos 0)
-place_of g (AtUpper o gap lower upper) = placed g 0 0 0 latest.Upper 0 zeros (pos 0)
-place_of g (AtTail o gap lower upper tail) = placed g 0 0 0 latest.Tail 0 zeros (pos 0)
-place_of g (AtSizes o gap lower upper tail nodes points) = placed g nodes points 0 latest.Sizes 0 zeros (pos 0)
-place_of g (AtStart h) = placed g h.nodes h.points 0 latest.Start 0 zeros (pos 0)
-place_of g (AtNode h ns lacking) = placed g h.nodes h.points (length ns + 1) latest.Node 0 lacking (pos 0)
-place_of g (AtVector h ns v lacking) = placed g h.nodes h.points (length ns + 1) latest.Vector 0 lacking (pos 0)
-place_of g (AtSteps h ns v m back lacking) = placed g h.nodes h.points (length ns + 1) (latest_step back) 0 lacking (pos 0)
-place_of g (AtPoint h ns ps lacking sum) = placed g h.nodes h.points (length ps + 1) latest.Point 0 lacking sum
-place_of g (AtBelief h ns ps b lacking) = placed g h.nodes h.points (length ps + 1) latest.Belief 0 lacking (sum_of b)
-place_of g (AtMixes h ns ps b v s w lacking) = placed g h.nodes h.points (length ps + 1) (latest_mix s) s lacking (sum_of b)
-place_of g (AtSplits h ns ps b v w back s lacking) = placed g h.nodes h.points (length ps + 1) (latest_share back) s lacking (sum_of b)
-place_of g (AtEnd h ns ps s lacking sum) = placed g h.nodes h.points (length ps) latest.End s lacking sum
+abbrev pub progress_of : GameData → Stage → Progress
+progress_of g AtNothing = start_of g
+progress_of g (AtVersion v) = progress_with g (fresh v) 0 0 0 latest.Version 0 zeros (pos 0)
+progress_of g (AtOutcome v o) = progress_with g (fresh v) 0 0 0 latest.Outcome 0 zeros (pos 0)
+progress_of g (AtGap v o gap) = progress_with g (fresh v) 0 0 0 latest.Gap 0 zeros (pos 0)
+progress_of g (AtLower v o gap lower) = progress_with g (fresh v) 0 0 0 latest.Lower 0 zeros (pos 0)
+progress_of g (AtUpper v o gap lower upper) = progress_with g (fresh v) 0 0 0 latest.Upper 0 zeros (pos 0)
+progress_of g (AtTail v o gap lower upper tail) = progress_with g (fresh v) 0 0 0 latest.Tail 0 zeros (pos 0)
+progress_of g (AtSizes v o gap lower upper tail nodes points) = progress_with g (fresh v) nodes points 0 latest.Sizes 0 zeros (pos 0)
+progress_of g (AtFrom h back) = progress_with g (starts_of h.version back []) h.nodes h.points 0 (latest_from back) 0 zeros (pos 0)
+progress_of g (AtOver h front back) = progress_with g (starts_of h.version front back) h.nodes h.points 0 (latest_over back) 0 zeros (pos 0)
+progress_of g (AtStart h) = progress_with g h.started h.nodes h.points 0 latest.Start 0 zeros (pos 0)
+progress_of g (AtNode h ns lacking) = progress_with g h.started h.nodes h.points (length ns + 1) latest.Node 0 lacking (pos 0)
+progress_of g (AtVector h ns v lacking) = progress_with g h.started h.nodes h.points (length ns + 1) latest.Vector 0 lacking (pos 0)
+progress_of g (AtSteps h ns v m back lacking) = progress_with g h.started h.nodes h.points (length ns + 1) (latest_step back) 0 lacking (pos 0)
+progress_of g (AtPoint h ns ps lacking sum) = progress_with g h.started h.nodes h.points (length ps + 1) latest.Point 0 lacking sum
+progress_of g (AtBelief h ns ps b lacking) = progress_with g h.started h.nodes h.points (length ps + 1) latest.Belief 0 lacking (sum_of b)
+progress_of g (AtMixes h ns ps b v s w lacking) = progress_with g h.started h.nodes h.points (length ps + 1) (latest_mix s) s lacking (sum_of b)
+progress_of g (AtSplits h ns ps b v w back s lacking) = progress_with g h.started h.nodes h.points (length ps + 1) (latest_share back) s lacking (sum_of b)
+progress_of g (AtEnd h ns ps s lacking sum) = progress_with g h.started h.nodes h.points (length ps) latest.End s lacking sum
 
 -- ---- the certificate
 
@@ -110,8 +140,9 @@ made_head h ns ps = record {
   outcome = h.outcome;
   nodes = ns;
   points = ps;
-  start_node = h.node;
-  start_point = h.point;
+  start_nodes = h.from;
+  start_points = h.over;
+  multiple = h.multiple;
 }
 
 abbrev pub node_from : List ℤ → List ℤ → List Branch → NodeData
@@ -125,13 +156,15 @@ point_from g b v w back = record { belief = b; value = v; mixes = mixes_from g w
 
 abbrev pub made_of : GameData → Stage → CertificateData
 made_of g AtNothing = blank
-made_of g AtVersion = blank
-made_of g (AtOutcome o) = record blank { outcome = o }
-made_of g (AtGap o gap) = record blank { outcome = o; gap = gap }
-made_of g (AtLower o gap lower) = record blank { outcome = o; gap = gap; lower = lower }
-made_of g (AtUpper o gap lower upper) = record blank { outcome = o; gap = gap; lower = lower; upper = upper }
-made_of g (AtTail o gap lower upper tail) = record blank { outcome = o; gap = gap; lower = lower; upper = upper; tail = tail }
-made_of g (AtSizes o gap lower upper tail nodes points) = record blank { outcome = o; gap = gap; lower = lower; upper = upper; tail = tail }
+made_of g (AtVersion v) = blank
+made_of g (AtOutcome v o) = record blank { outcome = o }
+made_of g (AtGap v o gap) = record blank { outcome = o; gap = gap }
+made_of g (AtLower v o gap lower) = record blank { outcome = o; gap = gap; lower = lower }
+made_of g (AtUpper v o gap lower upper) = record blank { outcome = o; gap = gap; lower = lower; upper = upper }
+made_of g (AtTail v o gap lower upper tail) = record blank { outcome = o; gap = gap; lower = lower; upper = upper; tail = tail }
+made_of g (AtSizes v o gap lower upper tail nodes points) = record blank { outcome = o; gap = gap; lower = lower; upper = upper; tail = tail }
+made_of g (AtFrom h back) = made_head (with_starts h back []) [] []
+made_of g (AtOver h front back) = made_head (with_starts h front back) [] []
 made_of g (AtStart h) = made_head h [] []
 made_of g (AtNode h ns lacking) = made_head h (ns ++ no_node ∷ []) []
 made_of g (AtVector h ns v lacking) = made_head h (ns ++ record no_node { vector = v } ∷ []) []
@@ -144,8 +177,8 @@ made_of g (AtEnd h ns ps s lacking sum) = made_head h ns ps
 
 -- ---- the text
 
-abbrev pub version_bytes : List ℕ
-version_bytes = line_text (codes "certificate" ∷ codes "1" ∷ [])
+abbrev pub version_bytes : List ℕ → List ℕ
+version_bytes word = line_text (codes "certificate" ∷ word ∷ [])
 
 abbrev pub outcome_bytes : Ending → List ℕ
 outcome_bytes o = line_text (codes "outcome" ∷ outcome_word o ∷ [])
@@ -156,16 +189,29 @@ sizes_bytes nodes points = line_of (codes "sizes") (pos nodes ∷ pos points ∷
 abbrev pub start_bytes : ℕ → ℕ → List ℕ
 start_bytes node point = line_of (codes "start") (pos node ∷ pos point ∷ [])
 
-abbrev pub head_bytes : Head → List ℕ
-head_bytes h =
-    version_bytes
+abbrev pub multiple_bytes : ℤ → List ℕ
+multiple_bytes multiple = line_of (codes "multiple") (multiple ∷ [])
+
+abbrev pub from_bytes : List Start → List ℕ
+from_bytes back = flat_map (start_line (codes "from")) (reverse back)
+
+abbrev pub over_bytes : List Start → List ℕ
+over_bytes back = flat_map (start_line (codes "over")) (reverse back)
+
+-- the lines up to the sizes, and these bytes
+abbrev pub front_bytes : List ℕ → Head → List ℕ → List ℕ
+front_bytes word h rest =
+    version_bytes word
     ++ (outcome_bytes h.outcome
     ++ (fraction_line (codes "gap") h.gap
     ++ (fraction_line (codes "lower") h.lower
     ++ (fraction_line (codes "upper") h.upper
     ++ (fraction_line (codes "tail") h.tail
     ++ (sizes_bytes h.nodes h.points
-    ++ start_bytes h.node h.point))))))
+    ++ rest))))))
+
+abbrev pub head_bytes : Head → List ℕ
+head_bytes h = front_bytes (version_word h.from h.over) h (starts_text h.from h.over h.multiple)
 
 abbrev pub nodes_bytes : List NodeData → List ℕ
 nodes_bytes ns = member_texts node_text no_node ns
@@ -194,18 +240,20 @@ mixes_bytes g w s = flat_map (mix_text (mixes_from g w)) (below s)
 
 abbrev pub text_of : GameData → Stage → List ℕ
 text_of g AtNothing = []
-text_of g AtVersion = version_bytes
-text_of g (AtOutcome o) = version_bytes ++ outcome_bytes o
-text_of g (AtGap o gap) = version_bytes ++ (outcome_bytes o ++ fraction_line (codes "gap") gap)
-text_of g (AtLower o gap lower) = version_bytes ++ (outcome_bytes o ++ (fraction_line (codes "gap") gap ++ fraction_line (codes "lower") lower))
-text_of g (AtUpper o gap lower upper) =
-    version_bytes ++ (outcome_bytes o ++ (fraction_line (codes "gap") gap ++ (fraction_line (codes "lower") lower ++ fraction_line (codes "upper") upper)))
-text_of g (AtTail o gap lower upper tail) =
-    version_bytes ++ (outcome_bytes o ++ (fraction_line (codes "gap") gap ++ (fraction_line (codes "lower") lower ++ (fraction_line (codes "upper") upper
+text_of g (AtVersion v) = version_bytes (version_word_of v)
+text_of g (AtOutcome v o) = version_bytes (version_word_of v) ++ outcome_bytes o
+text_of g (AtGap v o gap) = version_bytes (version_word_of v) ++ (outcome_bytes o ++ fraction_line (codes "gap") gap)
+text_of g (AtLower v o gap lower) = version_bytes (version_word_of v) ++ (outcome_bytes o ++ (fraction_line (codes "gap") gap ++ fraction_line (codes "lower") lower))
+text_of g (AtUpper v o gap lower upper) =
+    version_bytes (version_word_of v) ++ (outcome_bytes o ++ (fraction_line (codes "gap") gap ++ (fraction_line (codes "lower") lower ++ fraction_line (codes "upper") upper)))
+text_of g (AtTail v o gap lower upper tail) =
+    version_bytes (version_word_of v) ++ (outcome_bytes o ++ (fraction_line (codes "gap") gap ++ (fraction_line (codes "lower") lower ++ (fraction_line (codes "upper") upper
     ++ fraction_line (codes "tail") tail))))
-text_of g (AtSizes o gap lower upper tail nodes points) =
-    version_bytes ++ (outcome_bytes o ++ (fraction_line (codes "gap") gap ++ (fraction_line (codes "lower") lower ++ (fraction_line (codes "upper") upper
+text_of g (AtSizes v o gap lower upper tail nodes points) =
+    version_bytes (version_word_of v) ++ (outcome_bytes o ++ (fraction_line (codes "gap") gap ++ (fraction_line (codes "lower") lower ++ (fraction_line (codes "upper") upper
     ++ (fraction_line (codes "tail") tail ++ sizes_bytes nodes points)))))
+text_of g (AtFrom h back) = front_bytes (codes "2") h (multiple_bytes h.multiple ++ from_bytes back)
+text_of g (AtOver h front back) = front_bytes (codes "2") h (multiple_bytes h.multiple ++ (from_bytes front ++ over_bytes back))
 text_of g (AtStart h) = head_bytes h
 text_of g (AtNode h ns lacking) = head_bytes h ++ (nodes_bytes ns ++ node_line (length ns))
 text_of g (AtVector h ns v lacking) = head_bytes h ++ (nodes_bytes ns ++ (node_line (length ns) ++ vector_line v))
@@ -226,8 +274,28 @@ pub record HeadFits (g : GameData) (h : Head) : Type 0 where
   pub gap : GapFits h.gap
   pub bounds : BoundsFit h.lower h.upper h.tail
   pub sizes : SizesFit g.shape.states h.nodes h.points
-  pub node : h.node < h.nodes
-  pub point : h.point < h.points
+  pub starts : StartsFit h.nodes h.points h.from h.over h.multiple
+
+-- the lines up to the multiple
+pub record FrontFits (g : GameData) (h : Head) : Type 0 where
+  pub gap : GapFits h.gap
+  pub bounds : BoundsFit h.lower h.upper h.tail
+  pub sizes : SizesFit g.shape.states h.nodes h.points
+  pub multiple : IsWithin (pos 1) (pos most_from) h.multiple
+
+-- the start nodes so far, and all of them
+pub record FromsFit (h : Head) (back : List Start) : Type 0 where
+  pub so_far : StartsSoFar h.nodes (pos most_from) back
+  pub sum : weights_sum back ≤ℤ pos most_from
+
+pub record FromsDone (h : Head) (front : List Start) : Type 0 where
+  pub all : FromsFit h front
+  pub some : 1 ≤ length front
+  pub coprime : AreCoprimeStarts front
+
+pub record OversFit (h : Head) (back : List Start) : Type 0 where
+  pub so_far : StartsSoFar h.points (pos most_over) back
+  pub some : 1 ≤ length back
 
 -- the nodes before, and one more
 pub record NodesFit (g : GameData) (h : Head) (ns : List NodeData) : Type 0 where
@@ -241,7 +309,7 @@ pub record NodesDone (g : GameData) (h : Head) (ns : List NodeData) : Type 0 whe
   pub each : AllByRecursion (NodeFits g h.nodes) ns
   pub all : length ns ≡ h.nodes
 
--- what each place of a node lacks behind these steps
+-- what each pair of a node lacks behind these steps
 pub record Lacks (g : GameData) (m : List ℤ) (back : List Branch) (lacking : List ℤ) : Type 0 where
   pub long : length lacking ≡ 48
   pub each : (a o : ℕ) → a < g.shape.own_actions → o < g.shape.observations →
@@ -284,13 +352,15 @@ pub record IsDone (g : GameData) (h : Head) (ns : List NodeData) (ps : List Poin
 
 abbrev pub Known : GameData → Stage → Type 0
 Known g AtNothing = Unit {0}
-Known g AtVersion = Unit {0}
-Known g (AtOutcome o) = Unit {0}
-Known g (AtGap o gap) = GapFits gap
-Known g (AtLower o gap lower) = GapFits gap × IsShort lower
-Known g (AtUpper o gap lower upper) = GapFits gap × IsShort lower × IsShort upper
-Known g (AtTail o gap lower upper tail) = GapFits gap × BoundsFit lower upper tail
-Known g (AtSizes o gap lower upper tail nodes points) = GapFits gap × BoundsFit lower upper tail × SizesFit g.shape.states nodes points
+Known g (AtVersion v) = Unit {0}
+Known g (AtOutcome v o) = Unit {0}
+Known g (AtGap v o gap) = GapFits gap
+Known g (AtLower v o gap lower) = GapFits gap × IsShort lower
+Known g (AtUpper v o gap lower upper) = GapFits gap × IsShort lower × IsShort upper
+Known g (AtTail v o gap lower upper tail) = GapFits gap × BoundsFit lower upper tail
+Known g (AtSizes v o gap lower upper tail nodes points) = GapFits gap × BoundsFit lower upper tail × SizesFit g.shape.states nodes points
+Known g (AtFrom h back) = FrontFits g h × FromsFit h back
+Known g (AtOver h front back) = FrontFits g h × FromsDone h front × OversFit h back
 Known g (AtStart h) = HeadFits g h
 Known g (AtNode h ns lacking) = NodesFit g h ns
 Known g (AtVector h ns v lacking) = NodesFit g h ns × VectorFits (limits_of g) v

@@ -1,6 +1,6 @@
 -- The words of the lines, and the fractions in them.
-use Rattle.std.proofs.Common.{◌≡◌, ℕ, suc, ◌^◌, ◌<◌, Bool, true, false, cond, ◌&&◌, List, [], ◌∷◌, ◌++◌, Result, Ok, Err, ℤ, pos, negsuc, refl, sym, ap, subst, ◌∙◌, arith}
-use Rattle.std.specs.Prelude.{codes, ◌==◌}
+use Rattle.std.proofs.Common.{◌≡◌, ℕ, suc, ◌^◌, ◌<◌, Bool, true, false, cond, ◌&&◌, List, [], ◌∷◌, ◌++◌, Result, Ok, Err, ℤ, pos, negsuc, refl, sym, ap, subst, ◌∙◌, arith, inl, inr, ◌⊎◌}
+use Rattle.std.specs.Prelude.{codes, ◌==◌, if◌then◌else◌}
 use Rattle.std.specs.List.{slice_split, join_with_byte}
 use Rattle.std.specs.Option.{ok_or}
 use Rattle.std.specs.Str.{bytes_eq}
@@ -37,18 +37,49 @@ pub word_after-to : (name : List ℕ) (word : Word) → word_after name (name �
 unfolding word_after
 word_after-to name word = rw (bytes_same name) refl
 
-pub version_line-ok : (line : Line) (u : Unit {0}) → version_line line ≡ Ok u → line ≡ codes "certificate" ∷ codes "1" ∷ []
-unfolding version_line are_words
-version_line-ok [] u h = absurd cc
-version_line-ok (first ∷ []) u h = absurd cc
-version_line-ok (first ∷ word ∷ []) u h =
-    let p = and_true (bytes_eq first (codes "certificate")) (bytes_eq word (codes "1")) (cond_ok (bytes_eq first (codes "certificate") && bytes_eq word (codes "1")) tt u kinds.Version h).0 in
-    ap (λ (w : List ℕ). w ∷ word ∷ []) (bytes_is first (codes "certificate") p.0) ∙ ap (λ (w : List ℕ). codes "certificate" ∷ w ∷ []) (bytes_is word (codes "1") p.1)
-version_line-ok (first ∷ word ∷ more ∷ words) u h = absurd cc
+-- a version of the text, and its word
+abbrev pub IsVersion : ℕ → Type 0
+IsVersion number = (number ≡ 1) ⊎ (number ≡ 2)
 
-pub version_line-to : version_line (codes "certificate" ∷ codes "1" ∷ []) ≡ Ok tt
+abbrev pub version_word_of : ℕ → Word
+version_word_of number = if number == 1 then codes "1" else codes "2"
+
+are_words-ok : (name second : List ℕ) (line : Line) → are_words name second line ≡ true → line ≡ name ∷ second ∷ []
+unfolding are_words
+are_words-ok name second [] h = absurd cc
+are_words-ok name second (first ∷ []) h = absurd cc
+are_words-ok name second (first ∷ word ∷ []) h =
+    let p = and_true (bytes_eq first name) (bytes_eq word second) h in
+    ap (λ (w : List ℕ). w ∷ word ∷ []) (bytes_is first name p.0) ∙ ap (λ (w : List ℕ). name ∷ w ∷ []) (bytes_is word second p.1)
+are_words-ok name second (first ∷ word ∷ more ∷ words) h = absurd cc
+
+version_read : ℕ → Result ℕ CertKind
+version_read n = Ok n
+
+version_by : (line : Line) (a b : Bool) (n : ℕ) → are_words (codes "certificate") (codes "1") line ≡ a → are_words (codes "certificate") (codes "2") line ≡ b
+    → cond a (version_read 1) (cond b (version_read 2) (Err kinds.Version)) ≡ version_read n → IsVersion n × (line ≡ codes "certificate" ∷ version_word_of n ∷ [])
+unfolding version_read
+version_by line true b n p q h =
+    let e : n ≡ 1 = cc in (inl e, are_words-ok (codes "certificate") (codes "1") line p ∙ ap (λ (m : ℕ). codes "certificate" ∷ version_word_of m ∷ []) (sym e))
+version_by line false true n p q h =
+    let e : n ≡ 2 = cc in (inr e, are_words-ok (codes "certificate") (codes "2") line q ∙ ap (λ (m : ℕ). codes "certificate" ∷ version_word_of m ∷ []) (sym e))
+version_by line false false n p q h = absurd cc
+
+pub version_line-ok : (line : Line) (n : ℕ) → version_line line ≡ Ok n → IsVersion n × (line ≡ codes "certificate" ∷ version_word_of n ∷ [])
+unfolding version_line version_read
+version_line-ok line n h = version_by line (are_words (codes "certificate") (codes "1") line) (are_words (codes "certificate") (codes "2") line) n refl refl h
+
+pub version_line-one : version_line (codes "certificate" ∷ codes "1" ∷ []) ≡ Ok 1
 unfolding version_line are_words
-version_line-to = refl
+version_line-one = refl
+
+pub version_line-two : version_line (codes "certificate" ∷ codes "2" ∷ []) ≡ Ok 2
+unfolding version_line are_words
+version_line-two = refl
+
+pub version_line-to : (n : ℕ) → IsVersion n → version_line (codes "certificate" ∷ version_word_of n ∷ []) ≡ Ok n
+version_line-to n (inl e) = subst (λ (m : ℕ). version_line (codes "certificate" ∷ version_word_of m ∷ []) ≡ Ok m) (sym e) version_line-one
+version_line-to n (inr e) = subst (λ (m : ℕ). version_line (codes "certificate" ∷ version_word_of m ∷ []) ≡ Ok m) (sym e) version_line-two
 
 -- the three endings
 

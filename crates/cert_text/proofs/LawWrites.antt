@@ -1,5 +1,6 @@
 -- What may be written from a stage on, up to the end of a text.
-use Rattle.std.proofs.Common.{◌≡◌, ℕ, zero, suc, ◌*◌, ◌^◌, ◌<◌, ◌≤◌, List, [], ◌∷◌, map, Ok, ℤ, pos, negsuc, refl, sym, ap, subst, ◌∙◌, arith}
+use Rattle.std.proofs.Common.{◌≡◌, ℕ, zero, suc, ◌*◌, ◌^◌, ◌<◌, ◌≤◌, List, [], ◌∷◌, map, Ok, ℤ, pos, negsuc, refl, sym, ap, subst, ◌∙◌, arith, inl, inr}
+use Rattle.game_model.specs.Limits.{most_belief, most_members}
 use Rattle.std.specs.Prelude.{codes, neg_ℤ, unsigned_abs, ◌*ℤ◌}
 use Rattle.std.specs.List.{AllByRecursion}
 use Rattle.std.proofs.lemmas.Int.{ints}
@@ -11,42 +12,42 @@ use Rattle.game_model.specs.Game.{GameData, IsGame, IsWithin, numbers, span}
 use Rattle.game_model.proofs.Worth.{span-small}
 use Rattle.controller.specs.Certificates.{CertificateData, Closed, Ending, FractionData, Full as FullRun, Trials}
 use Rattle.text_words.proofs.Numerals.{Small, small_within, numbered, numbers_written}
-use Rattle.cert_text.specs.declared.place.Place.{Place}
-use Rattle.cert_text.specs.declared.place.Latest.TheVariants as latest
+use Rattle.cert_text.specs.declared.progress.Progress.{Progress}
+use Rattle.cert_text.specs.declared.progress.Latest.TheVariants as latest
 use Rattle.cert_text.specs.Entries.{Entry, Version, Outcome, entry_of, behind, limits_of}
 use Rattle.cert_text.specs.Made.{with_entries}
 use Rattle.cert_text.specs.Steps.{Say}
-use Rattle.cert_text.proofs.LawWords.{IsBrief, fraction_written}
+use Rattle.cert_text.proofs.LawWords.{IsVersion, IsBrief, fraction_written}
 use Rattle.cert_text.proofs.LawSaid.{words_in, fraction_words, branch_numbers, ValueFits}
-use Rattle.cert_text.proofs.LawStages.{Stage, place_of, made_of, Known}
+use Rattle.cert_text.proofs.LawStages.{Stage, progress_of, made_of, Known}
 use Rattle.cert_text.proofs.LawSteps.{To}
 
 -- from this stage these entries go to the end, and say this certificate
 pub record Writes (g : GameData) (s : Stage) (k : CertificateData) (es : List Entry) : Type 0 where
-  pub say : Say (place_of g s) (map words_in es) es
+  pub say : Say (progress_of g s) (map words_in es) es
   pub written : AllByRecursion IsWritten (map words_in es)
-  pub end : (behind (place_of g s) es).latest ≡ latest.End
+  pub end : (behind (progress_of g s) es).latest ≡ latest.End
   pub made : with_entries (limits_of g) (made_of g s) es ≡ k
 
 abbrev pub Can : GameData → Stage → CertificateData → Type 0
 Can g s k = (es : List Entry) × Writes g s k es
 
-pub can_step : (g : GameData) (s : Stage) (e : Entry) (t : Stage) (k : CertificateData) → To g s e t → entry_of (place_of g s) (words_in e) ≡ Ok e → IsWritten (words_in e) → (Known g t → Can g t k) → Can g s k
+pub can_step : (g : GameData) (s : Stage) (e : Entry) (t : Stage) (k : CertificateData) → To g s e t → entry_of (progress_of g s) (words_in e) ≡ Ok e → IsWritten (words_in e) → (Known g t → Can g t k) → Can g s k
 can_step g s e t k to ok written next =
     let c = next to.known in
     let w = c.1 in (
       e ∷ c.0,
       record {
-        say = (ok, subst (λ (p : Place). Say p (map words_in c.0) c.0) (sym to.place) w.say);
+        say = (ok, subst (λ (p : Progress). Say p (map words_in c.0) c.0) (sym to.progress) w.say);
         written = (written, w.written);
-        end = ap (λ (p : Place). (behind p c.0).latest) to.place ∙ w.end;
+        end = ap (λ (p : Progress). (behind p c.0).latest) to.progress ∙ w.end;
         made = ap (λ (x : CertificateData). with_entries (limits_of g) x c.0) to.made ∙ w.made;
       },
     )
 
 -- ---- numbers of at most 36 digits
 
-pub small_few : (n : ℕ) → n ≤ 1024 → Small (pos n)
+pub small_few : (n : ℕ) → n ≤ most_members → Small (pos n)
 small_few n l = omega arith
 
 pub small_each : (low high : ℤ) (xs : List ℤ) → unsigned_abs low < 10 ^ 36 → unsigned_abs high < 10 ^ 36 → AllByRecursion (IsWithin low high) xs → AllByRecursion Small xs
@@ -62,17 +63,17 @@ small_span g xs game h =
     let n = span-small g game in
     small_each (neg_ℤ (pos (span g))) (pos (span g)) xs (omega (arith, abs_neg (span g), n)) (omega (arith, n)) h
 
-value_bound : (n : ℕ) (total x : ℤ) → n ≤ 2 ^ 66 → IsWithin (pos 1) (pos (2 ^ 20)) total → IsWithin (neg_ℤ (pos n *ℤ total)) (pos n *ℤ total) x → Small x
+value_bound : (n : ℕ) (total x : ℤ) → n ≤ 2 ^ 66 → IsWithin (pos 1) (pos most_belief) total → IsWithin (neg_ℤ (pos n *ℤ total)) (pos n *ℤ total) x → Small x
 value_bound n (pos t) x l w h =
-    let few : t ≤ 2 ^ 20 = omega (arith, ints, w.1) in
-    let m : n * t ≤ 2 ^ 66 * 2 ^ 20 = mul-le-mul l few in
+    let few : t ≤ most_belief = omega (arith, ints, w.1) in
+    let m : n * t ≤ 2 ^ 66 * most_belief = mul-le-mul l few in
     small_within (neg_ℤ (pos (n * t))) (pos (n * t)) x (omega (arith, abs_neg (n * t), m)) (omega (arith, m)) h
 value_bound n (negsuc t) x l w h = absurd (omega (arith, ints, w.0))
 
-pub small_value : (g : GameData) (b : List ℤ) (v : ℤ) → IsGame g → IsWithin (pos 1) (pos (2 ^ 20)) (sum_of b) → ValueFits (limits_of g) (sum_of b) v → Small v
+pub small_value : (g : GameData) (b : List ℤ) (v : ℤ) → IsGame g → IsWithin (pos 1) (pos most_belief) (sum_of b) → ValueFits (limits_of g) (sum_of b) v → Small v
 small_value g b v game w h = value_bound (span g) (sum_of b) v (span-small g game) w h
 
-pub small_branch : (g : GameData) (members : ℕ) (most : ℤ) (b : Branch) → IsGame g → members ≤ 1024 → unsigned_abs most < 10 ^ 36 → IsBranch (numbers g) members most b → AllByRecursion Small (branch_numbers b)
+pub small_branch : (g : GameData) (members : ℕ) (most : ℤ) (b : Branch) → IsGame g → members ≤ most_members → unsigned_abs most < 10 ^ 36 → IsBranch (numbers g) members most b → AllByRecursion Small (branch_numbers b)
 small_branch g members most b game few m f =
     (omega (arith, f.own, game.shape.own_actions), (omega (arith, f.seen, game.shape.observations), (omega (arith, f.member, few), (small_within (pos 1) most b.weight (omega arith) m f.weight, tt))))
 
@@ -147,8 +148,21 @@ word_full = (omega arith, (omega arith, (omega arith, (omega arith, tt))))
 pub word_one : IsWord (codes "1")
 word_one = (omega arith, tt)
 
-pub version_written : IsWritten (words_in Version)
-version_written = (word_certificate, (word_one, tt))
+word_two : IsWord (codes "2")
+word_two = (omega arith, tt)
+
+pub word_multiple : IsWord (codes "multiple")
+word_multiple = (omega arith, (omega arith, (omega arith, (omega arith, (omega arith, (omega arith, (omega arith, (omega arith, tt))))))))
+
+pub word_from : IsWord (codes "from")
+word_from = (omega arith, (omega arith, (omega arith, (omega arith, tt))))
+
+pub word_over : IsWord (codes "over")
+word_over = (omega arith, (omega arith, (omega arith, (omega arith, tt))))
+
+pub version_written : (v : ℕ) → IsVersion v → IsWritten (words_in (Version v))
+version_written v (inl e) = subst (λ (m : ℕ). IsWritten (words_in (Version m))) (sym e) (word_certificate, (word_one, tt))
+version_written v (inr e) = subst (λ (m : ℕ). IsWritten (words_in (Version m))) (sym e) (word_certificate, (word_two, tt))
 
 pub outcome_written : (o : Ending) → IsWritten (words_in (Outcome o))
 outcome_written Closed = (word_outcome, (word_closed, tt))

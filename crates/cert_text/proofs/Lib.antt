@@ -1,5 +1,6 @@
 pub mod Below
-pub mod NumberKinds
+pub mod StartWeights
+pub mod LawStarts
 pub mod Divisor
 pub mod OneForm
 pub mod LawOnce
@@ -28,4 +29,3 @@ pub mod Last
 pub mod SoFar
 pub mod Final
 pub mod Refusals
-pub mod Grown

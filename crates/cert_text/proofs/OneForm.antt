@@ -1,13 +1,13 @@
 -- A line is of at most one of the forms that are due, and says at most one entry.
 use Rattle.std.proofs.Common.{◌≡◌, ℕ, ◌+◌, Bool, true, false, cond, List, [], ◌∷◌, Some, Ok, Option, Result, ℤ, sym, ap, subst, ◌∙◌, inl, inr, arith}
-use Rattle.std.specs.Prelude.{slice_index, nat_lt}
+use Rattle.std.specs.Prelude.{slice_index, nat_lt, ◌==◌}
 use Rattle.text_words.specs.Lines.{Line, Word}
 use Rattle.game_model.specs.Game.{GameData}
 use Rattle.controller.specs.Certificates.{FractionData}
 use Rattle.cert_text.specs.declared.fault.CertKind.{CertKind}
 use Rattle.cert_text.specs.Forms.{fraction_of}
-use Rattle.cert_text.specs.Entries.{Entry, Version, Outcome, Gap, Lower, Upper, Tail, Sizes, Start, Node, Vector, Mix, Next, Point, Belief, Value, Mixes, Split, End}
-use Rattle.cert_text.specs.Due.{Form, VersionLine, OutcomeLine, GapLine, LowerLine, UpperLine, TailLine, NodeLine, NextLine, FirstPointLine, PointLine, StateLine, SplitLine, EndLine, nodes_in, points_in, next_in, due, IsOneOf, name_of, IsFraction, SayNumbers, entry_in}
+use Rattle.cert_text.specs.Entries.{Entry, Version, Outcome, Gap, Lower, Upper, Tail, Sizes, Start, Multiple, From, Over, Node, Vector, Mix, Next, Point, Belief, Value, Mixes, Split, End}
+use Rattle.cert_text.specs.Due.{Form, VersionLine, OutcomeLine, GapLine, LowerLine, UpperLine, TailLine, StartLine, MultipleLine, FromLine, OverLine, FirstNodeLine, NodeLine, NextLine, FirstPointLine, PointLine, StateLine, SplitLine, EndLine, nodes_in, points_in, version_in, next_in, due, IsOneOf, name_of, IsFraction, SayNumbers, entry_in}
 use Rattle.cert_text.specs.Rules.{IsDueLine, Says}
 
 -- ---- first words that differ
@@ -31,6 +31,12 @@ split_point e = let q : 115 ≡ 112 = ap (λ (w : List ℕ). slice_index w 0) e 
 split_end : Differ SplitLine EndLine
 split_end e = let q : 115 ≡ 101 = ap (λ (w : List ℕ). slice_index w 0) e in omega (arith, q)
 
+pub from_over : Differ FromLine OverLine
+from_over e = let q : 102 ≡ 111 = ap (λ (w : List ℕ). slice_index w 0) e in omega (arith, q)
+
+pub over_node : Differ OverLine FirstNodeLine
+over_node e = let q : 111 ≡ 110 = ap (λ (w : List ℕ). slice_index w 0) e in omega (arith, q)
+
 -- at most two forms, whose names differ
 abbrev pub AreApart : List Form → Type 0
 AreApart [] = Unit {0}
@@ -46,20 +52,27 @@ pub point_apart : (more : Bool) → AreApart (SplitLine ∷ cond more PointLine 
 point_apart true = split_point
 point_apart false = split_end
 
+starts_apart : (first : Bool) → AreApart (cond first (StartLine ∷ []) (MultipleLine ∷ []))
+starts_apart true = tt
+starts_apart false = tt
+
 mixes_apart : (states more : Bool) → AreApart (cond states (StateLine ∷ []) (SplitLine ∷ cond more PointLine EndLine ∷ []))
 mixes_apart true more = tt
 mixes_apart false more = point_apart more
 
 due_apart : (g : GameData) (before : List Entry) → AreApart (due g before)
 due_apart g [] = tt
-due_apart g (Version ∷ before) = tt
+due_apart g (Version number ∷ before) = tt
 due_apart g (Outcome ending ∷ before) = tt
 due_apart g (Gap f ∷ before) = tt
 due_apart g (Lower f ∷ before) = tt
 due_apart g (Upper f ∷ before) = tt
 due_apart g (Tail f ∷ before) = tt
-due_apart g (Sizes nodes points ∷ before) = tt
+due_apart g (Sizes nodes points ∷ before) = starts_apart (version_in before == 1)
 due_apart g (Start node point ∷ before) = tt
+due_apart g (Multiple multiple ∷ before) = tt
+due_apart g (From node weight ∷ before) = from_over
+due_apart g (Over point weight ∷ before) = over_node
 due_apart g (Node number ∷ before) = tt
 due_apart g (Vector entries ∷ before) = tt
 due_apart g (Mix weights ∷ before) = node_apart (nat_lt (next_in before) (nodes_in before))

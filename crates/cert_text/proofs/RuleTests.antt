@@ -1,5 +1,6 @@
 -- The reader's tests: each gives its value exactly where its rule is kept, and else its kind.
 use Rattle.std.proofs.Common.{◌≡◌, ℕ, Bool, ◌&&◌, List, [], ◌∷◌, Result, Ok, Err, ℤ, pos, refl, sym, subst, inl}
+use Rattle.game_model.specs.Limits.{most_belief, most_members}
 use Rattle.std.specs.Prelude.{if◌then◌else◌, ◌≤ℤ◌, ◌<ℤ◌, unsigned_abs, int_le, int_lt, ◌==◌}
 use Rattle.std.specs.List.{AllByRecursion, list_all}
 use Rattle.std.proofs.lemmas.Bool.{eqb-true}
@@ -9,12 +10,11 @@ use Rattle.text_words.proofs.Limits.{and_true, true_and, le_from, lt_from, le_to
 use Rattle.text_words.proofs.Chains.{Tests, cond_tests}
 use Rattle.game_model.specs.Branches.{Branch, IsBranchBefore, mix_total}
 use Rattle.game_model.specs.Game.{IsWithin, AreCoprime}
-use Rattle.game_model.specs.Limits.{most_members}
 use Rattle.cert_text.specs.declared.fault.CertKind.{CertKind}
 use Rattle.cert_text.specs.declared.fault.CertKind.TheVariants as kinds
-use Rattle.cert_text.specs.Entries.{Entry, Next, Split}
-use Rattle.cert_text.specs.Forms.{at_least, is_due, member_below, few, is_after, later_branch, sums_to_mix, common_divisor, most_belief, belief_total, none_lacks, fits_lack}
-use Rattle.cert_text.specs.Rules.{IsLater}
+use Rattle.cert_text.specs.Entries.{Entry, From, Over, Next, Split}
+use Rattle.cert_text.specs.Forms.{at_least, is_due, member_below, few, is_after, later_branch, above_from, above_over, sums_to_mix, common_divisor, belief_total, none_lacks, fits_lack}
+use Rattle.cert_text.specs.Rules.{IsLater, IsAboveFrom, IsAboveOver}
 use Rattle.cert_text.proofs.Divisor.{coprime_from, coprime_to}
 use Rattle.cert_text.proofs.LawGuards.{IsNone, squeezed, same_within, after_from, after_to, eq_true, none_from, none_to}
 use Rattle.cert_text.proofs.Seen.{latest_in}
@@ -66,6 +66,21 @@ Later before own seen k weight = IsLater before (record { own = own; seen = seen
 
 abbrev rises : Bool → Result (Unit {0}) CertKind
 rises b = if b then Ok tt else Err kinds.Order
+
+above_tests : (m : ℕ) (x : ℤ) → Tests (rises (int_lt (pos m) x)) kinds.Order tt (pos m <ℤ x)
+above_tests m x = cond_tests (int_lt (pos m) x) tt kinds.Order (pos m <ℤ x) (lt_from (pos m) x) (lt_to (pos m) x)
+
+pub above_from-tests : (before : List Entry) (x : ℤ) → Tests (above_from (latest_in before) x) kinds.Order tt (IsAboveFrom before x)
+unfolding above_from
+above_from-tests [] x = inl (refl, tt)
+above_from-tests (From node weight ∷ before) x = above_tests node x
+above_from-tests (_ ∷ before) x = inl (refl, tt)
+
+pub above_over-tests : (before : List Entry) (x : ℤ) → Tests (above_over (latest_in before) x) kinds.Order tt (IsAboveOver before x)
+unfolding above_over
+above_over-tests [] x = inl (refl, tt)
+above_over-tests (Over point weight ∷ before) x = above_tests point x
+above_over-tests (_ ∷ before) x = inl (refl, tt)
 
 after_tests : (d : Branch) (own seen k : ℕ) (weight : ℤ) → Tests (rises (is_after d.own d.seen d.member own seen (pos k))) kinds.Order tt (IsBranchBefore d (record { own = own; seen = seen; member = k; weight = weight }))
 after_tests d own seen k weight =

@@ -1,5 +1,6 @@
 -- What the numbers of a line of each form give: what the line says, or the least kind whose rule they break.
 use Rattle.std.proofs.Common.{◌≡◌, ℕ, ◌+◌, ◌^◌, ◌<◌, ◌≤◌, List, [], ◌∷◌, drop, take, Result, Ok, Err, ℤ, pos, refl, sym, ap, subst, arith, inl, inr}
+use Rattle.game_model.specs.Limits.{most_belief}
 use Rattle.std.specs.Prelude.{◌≤ℤ◌, ◌<ℤ◌, ◌*ℤ◌, neg_ℤ, unsigned_abs, slice_index_or}
 use Rattle.std.proofs.lemmas.Int.{ints}
 use Rattle.text_words.specs.Lines.{Line}
@@ -9,15 +10,17 @@ use Rattle.text_words.proofs.Chains.{Tests, limited-tests, below_limit-tests, ea
 use Rattle.game_model.specs.Branches.{Branch, mix_total}
 use Rattle.game_model.specs.Game.{GameData, IsGame, span}
 use Rattle.point_set.specs.Points.{most_share}
-use Rattle.controller.specs.Certificates.{FractionData}
+use Rattle.controller.specs.Certificates.{FractionData, most_gap, most_gap_under}
 use Rattle.cert_text.specs.declared.fault.CertKind.{CertKind}
 use Rattle.cert_text.specs.declared.fault.CertKind.TheVariants as kinds
 use Rattle.cert_text.specs.Fault.{number_of_kind}
-use Rattle.cert_text.specs.Entries.{Entry, Gap, Lower, Upper, Tail, Sizes, Start, Node, Vector, Mix, Next, Point, Belief, Value, Mixes, Split, End, limits_of, place_at}
-use Rattle.cert_text.specs.Forms.{at_least, is_due, member_below, few, later_branch, sums_to_mix, most_belief, belief_total, none_lacks, fits_lack}
-use Rattle.cert_text.specs.Due.{Form, GapLine, LowerLine, UpperLine, TailLine, SizesLine, StartLine, FirstNodeLine, NodeLine, VectorLine, MixLine, NextLine, FirstPointLine, PointLine, BeliefLine, ValueLine, StateLine, SplitLine, EndLine, nodes_in, points_in, next_in, total_in, branch_in, entry_in}
-use Rattle.cert_text.specs.Rules.{IsBranchWithin, Rule}
-use Rattle.cert_text.proofs.RuleTests.{at_least-tests, is_due-tests, member_below-tests, few-tests, sums_to_mix-tests, belief_total-tests, none_lacks-tests, fits_lack-tests, later-tests}
+use Rattle.cert_text.specs.Entries.{Entry, Gap, Lower, Upper, Tail, Sizes, Start, Multiple, From, Over, Node, Vector, Mix, Next, Point, Belief, Value, Mixes, Split, End, limits_of, pair_at}
+use Rattle.cert_text.specs.Forms.{at_least, is_due, member_below, few, later_branch, above_from, above_over, within_sum, coprime, whole_starts, sums_to_mix, belief_total, none_lacks, fits_lack}
+use Rattle.cert_text.specs.Due.{Form, GapLine, LowerLine, UpperLine, TailLine, SizesLine, StartLine, MultipleLine, FromLine, OverLine, FirstNodeLine, NodeLine, VectorLine, MixLine, NextLine, FirstPointLine, PointLine, BeliefLine, ValueLine, StateLine, SplitLine, EndLine, nodes_in, points_in, version_in, from_in, over_in, next_in, total_in, branch_in, entry_in}
+use Rattle.cert_text.specs.Rules.{AreStartsWhole, IsBranchWithin, Rule}
+use Rattle.cert_text.proofs.RuleTests.{above_from-tests, above_over-tests, at_least-tests, is_due-tests, member_below-tests, few-tests, sums_to_mix-tests, belief_total-tests, none_lacks-tests, fits_lack-tests, later-tests}
+use Rattle.controller.specs.Starts.{most_from, most_over, weights_sum}
+use Rattle.cert_text.proofs.StartWeights.{weights, weights_of, starts_of, within_sum-tests, coprime-tests, whole-tests}
 use Rattle.cert_text.proofs.Seen.{latest_in, lacking_in, Kept, reached_from, reached_to, earlier_from, earlier_to, room_from, room_to}
 
 -- a kind that the numbers of a line have
@@ -122,11 +125,11 @@ abbrev both : FractionData → List ℤ
 both f = f.num ∷ f.den ∷ []
 
 pub gap_checked : (g : GameData) (before : List Entry) (words : Line) (f : FractionData)
-    → Checked g before GapLine words (both f) (limited kinds.Range (pos 0) (pos (2 ^ 40)) f.num >>= (λ num. limited kinds.Range (pos 1) (pos (2 ^ 20)) f.den >>= (λ den. Ok (Gap (record { num = num; den = den })))))
+    → Checked g before GapLine words (both f) (limited kinds.Range (pos 0) (pos most_gap) f.num >>= (λ num. limited kinds.Range (pos 1) (pos most_gap_under) f.den >>= (λ den. Ok (Gap (record { num = num; den = den })))))
 gap_checked g before words f =
     let ns = both f in
-    chain g before GapLine words ns _ (limited-tests kinds.Range (pos 0) (pos (2 ^ 40)) f.num)
-    (λ num. chain g before GapLine words ns _ (limited-tests kinds.Range (pos 1) (pos (2 ^ 20)) f.den)
+    chain g before GapLine words ns _ (limited-tests kinds.Range (pos 0) (pos most_gap) f.num)
+    (λ num. chain g before GapLine words ns _ (limited-tests kinds.Range (pos 1) (pos most_gap_under) f.den)
     (λ den. (refl, all_kept g before GapLine ns (num, den) tt tt tt tt))
     (λ n. fails_range g before GapLine ns (λ r. n r.1)))
     (λ n. fails_range g before GapLine ns (λ r. n r.0))
@@ -174,18 +177,69 @@ start_checked g before words ns =
     (λ no. fails_range g before StartLine ns (λ r. no r.1)))
     (λ no. fails_range g before StartLine ns (λ r. no r.0))
 
+pub multiple_checked : (g : GameData) (before : List Entry) (words : Line) (ns : List ℤ)
+    → Checked g before MultipleLine words ns (limited kinds.Range (pos 1) (pos most_from) (number_at ns 0) >>= (λ multiple. Ok (Multiple multiple)))
+multiple_checked g before words ns =
+    chain g before MultipleLine words ns _ (limited-tests kinds.Range (pos 1) (pos most_from) (number_at ns 0))
+    (λ m. (refl, all_kept g before MultipleLine ns m tt tt tt tt)) (λ no. fails_range g before MultipleLine ns no)
+
+pub from_checked : (g : GameData) (before : List Entry) (words : Line) (ns : List ℤ)
+    → Checked g before FromLine words ns
+    (at_least (pos 0) (number_at ns 0) >>= (λ number. limited kinds.Range (pos 1) (pos most_from) (number_at ns 1) >>= (λ weight. above_from (latest_in before) number >>= (λ a.
+    member_below (nodes_in before) number >>= (λ node. within_sum (weights_sum (from_in before)) weight >>= (λ s. Ok (From node weight)))))))
+from_checked g before words ns =
+    chain g before FromLine words ns _ (at_least-tests (pos 0) (number_at ns 0))
+    (λ n. chain g before FromLine words ns _ (limited-tests kinds.Range (pos 1) (pos most_from) (number_at ns 1))
+    (λ x. chain g before FromLine words ns _ (above_from-tests before (number_at ns 0))
+    (λ a. chain g before FromLine words ns _ (member_below-tests (nodes_in before) (number_at ns 0))
+    (λ i. chain g before FromLine words ns _ (within_sum-tests (weights_sum (from_in before)) (number_at ns 1))
+    (λ s. (refl, all_kept g before FromLine ns (n, x) a i s tt))
+    (λ no. fails_total g before FromLine ns no (n, x) a i))
+    (λ no. fails_index g before FromLine ns no (n, x) a))
+    (λ no. fails_order g before FromLine ns no (n, x)))
+    (λ no. fails_range g before FromLine ns (λ r. no r.1)))
+    (λ no. fails_range g before FromLine ns (λ r. no r.0))
+
+pub over_checked : (g : GameData) (before : List Entry) (words : Line) (ns : List ℤ)
+    → Checked g before OverLine words ns
+    (at_least (pos 0) (number_at ns 0) >>= (λ number. limited kinds.Range (pos 1) (pos most_over) (number_at ns 1) >>= (λ weight. above_over (latest_in before) number >>= (λ a.
+    member_below (points_in before) number >>= (λ point. coprime (weights_of (weights (from_in before))) >>= (λ s. Ok (Over point weight)))))))
+over_checked g before words ns =
+    chain g before OverLine words ns _ (at_least-tests (pos 0) (number_at ns 0))
+    (λ n. chain g before OverLine words ns _ (limited-tests kinds.Range (pos 1) (pos most_over) (number_at ns 1))
+    (λ x. chain g before OverLine words ns _ (above_over-tests before (number_at ns 0))
+    (λ a. chain g before OverLine words ns _ (member_below-tests (points_in before) (number_at ns 0))
+    (λ i. chain g before OverLine words ns _ (coprime-tests (from_in before))
+    (λ s. (refl, all_kept g before OverLine ns (n, x) a i s tt))
+    (λ no. fails_total g before OverLine ns no (n, x) a i))
+    (λ no. fails_index g before OverLine ns no (n, x) a))
+    (λ no. fails_order g before OverLine ns no (n, x)))
+    (λ no. fails_range g before OverLine ns (λ r. no r.1)))
+    (λ no. fails_range g before OverLine ns (λ r. no r.0))
+
 -- ---- the lines of a node
 
 abs_is : (x : ℤ) (n : ℕ) → x ≡ pos n → n ≡ unsigned_abs x
 abs_is x n e = sym (ap unsigned_abs e)
 
-pub first_node_checked : (g : GameData) (before : List Entry) (words : Line) (ns : List ℤ)
+pub first_node_checked : (g : GameData) (before : List Entry) (words : Line) (ns : List ℤ) → AreStartsWhole before
     → Checked g before FirstNodeLine words ns (is_due 0 (number_at ns 0) >>= (λ a. none_lacks [] >>= (λ b. Ok (Node 0))))
-first_node_checked g before words ns =
+first_node_checked g before words ns whole =
     chain g before FirstNodeLine words ns _ (is_due-tests 0 (number_at ns 0))
     (λ e. chain g before FirstNodeLine words ns _ (none_lacks-tests [])
-    (λ none. (ap (λ (k : ℕ). Node k) (abs_is (number_at ns 0) 0 e), all_kept g before FirstNodeLine ns tt e tt tt tt))
+    (λ none. (ap (λ (k : ℕ). Node k) (abs_is (number_at ns 0) 0 e), all_kept g before FirstNodeLine ns tt e tt whole tt))
     (λ no. absurd (no tt)))
+    (λ no. fails_order g before FirstNodeLine ns no tt)
+
+pub over_node_checked : (g : GameData) (point : ℕ) (weight : ℤ) (b : List Entry) (words : Line) (ns : List ℤ)
+    → (let before : List Entry = Over point weight ∷ b in
+    Checked g before FirstNodeLine words ns (is_due 0 (number_at ns 0) >>= (λ a. whole_starts (starts_of (version_in before) (from_in before) (over_in before)) >>= (λ s. Ok (Node 0)))))
+over_node_checked g point weight b words ns =
+    let before : List Entry = Over point weight ∷ b in
+    chain g before FirstNodeLine words ns _ (is_due-tests 0 (number_at ns 0))
+    (λ e. chain g before FirstNodeLine words ns _ (whole-tests (version_in before) (from_in before) (over_in before))
+    (λ whole. (ap (λ (k : ℕ). Node k) (abs_is (number_at ns 0) 0 e), all_kept g before FirstNodeLine ns tt e tt whole tt))
+    (λ no. fails_total g before FirstNodeLine ns no tt e tt))
     (λ no. fails_order g before FirstNodeLine ns no tt)
 
 pub node_checked : (g : GameData) (before : List Entry) (words : Line) (ns : List ℤ) → IsGame g → Kept g before
@@ -222,8 +276,8 @@ branch_steps g before most members ns =
 -- what is asked of a branch of a `next` line, and of a `split` line
 abbrev pub next_steps : GameData → List Entry → Branch → Result Entry CertKind
 next_steps g before b =
-    none_lacks (take (place_at (limits_of g) b) (lacking_in g before))
-    >>= (λ u. fits_lack (slice_index_or (lacking_in g before) (place_at (limits_of g) b) (pos 0)) b.weight >>= (λ v. Ok (Next b)))
+    none_lacks (take (pair_at (limits_of g) b) (lacking_in g before))
+    >>= (λ u. fits_lack (slice_index_or (lacking_in g before) (pair_at (limits_of g) b) (pos 0)) b.weight >>= (λ v. Ok (Next b)))
 
 abbrev pub split_steps : Branch → Result Entry CertKind
 split_steps b = Ok (Split b)
@@ -245,8 +299,8 @@ next_checked g before words ns game k =
     (λ member.
     (let o = abs_below (number_at ns 0) g.shape.own_actions own in
     let s = abs_below (number_at ns 1) g.shape.observations seen in
-    chain g before NextLine words ns _ (none_lacks-tests (take (place_at (limits_of g) b) (lacking_in g before)))
-    (λ none. chain g before NextLine words ns _ (fits_lack-tests (slice_index_or (lacking_in g before) (place_at (limits_of g) b) (pos 0)) b.weight)
+    chain g before NextLine words ns _ (none_lacks-tests (take (pair_at (limits_of g) b) (lacking_in g before)))
+    (λ none. chain g before NextLine words ns _ (fits_lack-tests (slice_index_or (lacking_in g before) (pair_at (limits_of g) b) (pos 0)) b.weight)
     (λ room. (refl, all_kept g before NextLine ns range later member (record { earlier = earlier_from g before b k o none; room = room_from g before b k o s room }) tt))
     (λ no. fails_total g before NextLine ns (λ r. no (room_to g before b k o s r.room)) range later member))
     (λ no. fails_total g before NextLine ns (λ r. no (earlier_to g before b game k o s r.earlier)) range later member)))

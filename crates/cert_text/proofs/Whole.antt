@@ -1,4 +1,4 @@
--- The place before the first line, and a text that ends with its `end` line.
+-- Before the first line, and a text that ends with its `end` line.
 use Rattle.std.proofs.Common.{◌≡◌, ℕ, List, [], ◌∷◌, length, refl, sym, ap, subst, ◌∙◌, arith}
 use Rattle.std.proofs.lemmas.Int.{ints}
 use Rattle.text_words.specs.Lines.{Line, lines_of, after_lines}

@@ -1,5 +1,5 @@
 -- The forms of the lines of a certificate text, what the lines before say, and which forms are due behind them.
-use Rattle.std.specs.Prelude.{◌≡◌, ◌⊎◌, ℕ, ◌+◌, nat_lt, List, [], ◌∷◌, length, Some, Ok, ℤ, pos, drop, unsigned_abs, if◌then◌else◌, slice_index_or, codes, ⊤}
+use Rattle.std.specs.Prelude.{◌≡◌, ◌⊎◌, ℕ, ◌+◌, ◌==◌, nat_lt, List, [], ◌∷◌, length, Some, Ok, ℤ, pos, drop, unsigned_abs, if◌then◌else◌, slice_index_or, codes, ⊤}
 use Rattle.std.specs.Str.{bytes_eq}
 use Rattle.scaled_num.specs.Sums.{sum_of, total}
 use Rattle.text_words.specs.Lines.{Line, Word}
@@ -10,7 +10,7 @@ use Rattle.game_model.specs.Game.{GameData}
 use Rattle.controller.specs.Certificates.{Closed, Ending, FractionData, Full, Trials}
 use Rattle.cert_text.specs.Text.{outcome_word}
 use Rattle.cert_text.specs.Forms.{fraction_of}
-use Rattle.cert_text.specs.Entries.{Entry, Version, Outcome, Gap, Lower, Upper, Tail, Sizes, Start, Node, Vector, Mix, Next, Point, Belief, Value, Mixes, Split, End}
+use Rattle.cert_text.specs.Entries.{Entry, Version, Outcome, Gap, Lower, Upper, Tail, Sizes, Start, Multiple, From, Over, Node, Vector, Mix, Next, Point, Belief, Value, Mixes, Split, End}
 
 -- the forms of lines; a `StateLine` is the `mix` line of a state of a point
 pub data Form : Type 0 where
@@ -22,6 +22,9 @@ pub data Form : Type 0 where
   TailLine : Form
   SizesLine : Form
   StartLine : Form
+  MultipleLine : Form
+  FromLine : Form
+  OverLine : Form
   FirstNodeLine : Form
   NodeLine : Form
   VectorLine : Form
@@ -47,6 +50,23 @@ abbrev pub points_in : List Entry → ℕ
 points_in [] = 0
 points_in (Sizes nodes points ∷ before) = points
 points_in (entry ∷ before) = points_in before
+
+-- the number of the first line
+abbrev pub version_in : List Entry → ℕ
+version_in [] = 0
+version_in (Version number ∷ before) = number
+version_in (entry ∷ before) = version_in before
+
+-- the start nodes and start points of the `from` and `over` lines with their weights, the latest first
+abbrev pub from_in : List Entry → List (ℕ × ℤ)
+from_in [] = []
+from_in (From node weight ∷ before) = (node, weight) ∷ from_in before
+from_in (entry ∷ before) = from_in before
+
+abbrev pub over_in : List Entry → List (ℕ × ℤ)
+over_in [] = []
+over_in (Over point weight ∷ before) = (point, weight) ∷ over_in before
+over_in (entry ∷ before) = over_in before
 
 -- the number behind that of the latest node or point
 abbrev pub next_in : List Entry → ℕ
@@ -80,7 +100,7 @@ steps_in (Mix weights ∷ before) = []
 steps_in (Next branch ∷ before) = branch ∷ steps_in before
 steps_in (entry ∷ before) = steps_in before
 
--- the sum of a place of the latest node, and what it must reach: places are own actions with observations
+-- the sum at a pair of an own action and an observation of the latest node, and what it must reach
 abbrev pub sum_at : List Entry → ℕ → ℕ → ℤ
 sum_at before a o = total (λ b. b.weight) (branches_at (steps_in before) a o)
 
@@ -99,14 +119,17 @@ after_point before = if nat_lt (next_in before) (points_in before) then PointLin
 
 abbrev pub due : GameData → List Entry → List Form
 due g [] = VersionLine ∷ []
-due g (Version ∷ before) = OutcomeLine ∷ []
+due g (Version number ∷ before) = OutcomeLine ∷ []
 due g (Outcome ending ∷ before) = GapLine ∷ []
 due g (Gap f ∷ before) = LowerLine ∷ []
 due g (Lower f ∷ before) = UpperLine ∷ []
 due g (Upper f ∷ before) = TailLine ∷ []
 due g (Tail f ∷ before) = SizesLine ∷ []
-due g (Sizes nodes points ∷ before) = StartLine ∷ []
+due g (Sizes nodes points ∷ before) = if version_in before == 1 then StartLine ∷ [] else MultipleLine ∷ []
 due g (Start node point ∷ before) = FirstNodeLine ∷ []
+due g (Multiple multiple ∷ before) = FromLine ∷ []
+due g (From node weight ∷ before) = FromLine ∷ OverLine ∷ []
+due g (Over point weight ∷ before) = OverLine ∷ FirstNodeLine ∷ []
 due g (Node number ∷ before) = VectorLine ∷ []
 due g (Vector entries ∷ before) = MixLine ∷ []
 due g (Mix weights ∷ before) = NextLine ∷ after_node before ∷ []
@@ -135,6 +158,9 @@ name_of UpperLine = codes "upper"
 name_of TailLine = codes "tail"
 name_of SizesLine = codes "sizes"
 name_of StartLine = codes "start"
+name_of MultipleLine = codes "multiple"
+name_of FromLine = codes "from"
+name_of OverLine = codes "over"
 name_of FirstNodeLine = codes "node"
 name_of NodeLine = codes "node"
 name_of VectorLine = codes "vector"
@@ -152,6 +178,8 @@ name_of EndLine = codes "end"
 abbrev pub words_after : GameData → Form → ℕ
 words_after g SizesLine = 2
 words_after g StartLine = 2
+words_after g FromLine = 2
+words_after g OverLine = 2
 words_after g VectorLine = g.shape.states
 words_after g MixLine = g.shape.own_actions
 words_after g NextLine = 4
@@ -191,6 +219,10 @@ ending_in [] = Closed
 ending_in (word ∷ words) =
     if bytes_eq word (outcome_word Closed) then Closed else if bytes_eq word (outcome_word Trials) then Trials else Full
 
+abbrev pub version_of : Line → ℕ
+version_of [] = 0
+version_of (word ∷ words) = if bytes_eq word (codes "1") then 1 else 2
+
 abbrev pub fraction_in : List ℤ → FractionData
 fraction_in ns = record { num = number_at ns 0; den = number_at ns 1 }
 
@@ -204,7 +236,7 @@ branch_in ns = record {
 
 -- what a line of this form with these words and numbers says
 abbrev pub entry_in : Form → Line → List ℤ → Entry
-entry_in VersionLine words ns = Version
+entry_in VersionLine words ns = Version (version_of words)
 entry_in OutcomeLine words ns = Outcome (ending_in words)
 entry_in GapLine words ns = Gap (fraction_in ns)
 entry_in LowerLine words ns = Lower (fraction_in ns)
@@ -212,6 +244,9 @@ entry_in UpperLine words ns = Upper (fraction_in ns)
 entry_in TailLine words ns = Tail (fraction_in ns)
 entry_in SizesLine words ns = Sizes (unsigned_abs (number_at ns 0)) (unsigned_abs (number_at ns 1))
 entry_in StartLine words ns = Start (unsigned_abs (number_at ns 0)) (unsigned_abs (number_at ns 1))
+entry_in MultipleLine words ns = Multiple (number_at ns 0)
+entry_in FromLine words ns = From (unsigned_abs (number_at ns 0)) (number_at ns 1)
+entry_in OverLine words ns = Over (unsigned_abs (number_at ns 0)) (number_at ns 1)
 entry_in FirstNodeLine words ns = Node (unsigned_abs (number_at ns 0))
 entry_in NodeLine words ns = Node (unsigned_abs (number_at ns 0))
 entry_in VectorLine words ns = Vector ns

@@ -1,6 +1,6 @@
 -- What the words and numbers of one line say, or the least kind of fault.
-use Rattle.game_model.specs.Limits.{most_members}
-use Rattle.std.specs.Prelude.{ℕ, zero, suc, ◌%◌, ◌==◌, nat_lt, ◌&&◌, ◌||◌, Bool, false, List, [], ◌∷◌, Result, Ok, Err, ℤ, pos, int_lt, int_le, unsigned_abs, if◌then◌else◌, codes}
+use Rattle.std.specs.Prelude.{ℕ, zero, suc, ◌%◌, ◌==◌, nat_lt, ◌&&◌, ◌||◌, Bool, false, List, [], ◌∷◌, Result, Ok, Err, ℤ, pos, ◌+ℤ◌, int_lt, int_le, unsigned_abs, if◌then◌else◌, codes}
+use Rattle.game_model.specs.Limits.{most_belief, most_members}
 use Rattle.std.specs.List.{list_all, slice_split}
 use Rattle.std.specs.Option.{ok_or}
 use Rattle.std.specs.Str.{bytes_eq}
@@ -10,11 +10,14 @@ use Rattle.text_words.specs.Numbers.{number_of}
 use Rattle.text_words.specs.Forms.{◌>>=◌, is_within}
 use Rattle.text_words.specs.Forms as forms
 use Rattle.game_model.specs.Branches.{mix_total}
+use Rattle.controller.specs.Starts.{most_from}
 use Rattle.controller.specs.Certificates.{Closed, Ending, FractionData, Full as FullRun, Trials}
 use Rattle.cert_text.specs.declared.fault.CertKind.{CertKind}
 use Rattle.cert_text.specs.declared.fault.CertKind.TheVariants as kinds
-use Rattle.cert_text.specs.declared.place.Latest.{Latest}
-use Rattle.cert_text.specs.declared.place.Latest.TheVariants as latest
+use Rattle.cert_text.specs.declared.progress.Latest.{Latest}
+use Rattle.cert_text.specs.declared.progress.Latest.TheVariants as latest
+use Rattle.cert_text.specs.declared.progress.Starts.{Starts}
+use Rattle.cert_text.specs.declared.progress.Weights.{Weights}
 
 -- ---- the words of a line
 
@@ -25,9 +28,12 @@ are_words name second (first ∷ []) = false
 are_words name second (first ∷ word ∷ []) = bytes_eq first name && bytes_eq word second
 are_words name second (first ∷ word ∷ more ∷ words) = false
 
--- the line is `certificate 1`
-unfoldable pub version_line : Line → Result (Unit {0}) CertKind
-version_line line = if are_words (codes "certificate") (codes "1") line then Ok tt else Err kinds.Version
+-- the version that the line `certificate 1` or `certificate 2` says
+unfoldable pub version_line : Line → Result ℕ CertKind
+version_line line =
+    if are_words (codes "certificate") (codes "1") line then Ok 1
+    else if are_words (codes "certificate") (codes "2") line then Ok 2
+    else Err kinds.Version
 
 -- the numbers of a line of this form: its first word, and how many numbers follow
 abbrev pub numbers_after : Word → ℕ → Line → Result (List ℤ) CertKind
@@ -90,6 +96,29 @@ later_branch (latest.Next a o k) own seen member = if is_after a o k own seen me
 later_branch (latest.Split a o k) own seen member = if is_after a o k own seen member then Ok tt else Err kinds.Order
 later_branch _ own seen member = Ok tt
 
+-- the number is above that of the `from` line just before, where there is one
+unfoldable pub above_from : Latest → ℤ → Result (Unit {0}) CertKind
+above_from (latest.From node) number = if int_lt (pos node) number then Ok tt else Err kinds.Order
+above_from _ number = Ok tt
+
+-- the number is above that of the `over` line just before, where there is one
+unfoldable pub above_over : Latest → ℤ → Result (Unit {0}) CertKind
+above_over (latest.Over point) number = if int_lt (pos point) number then Ok tt else Err kinds.Order
+above_over _ number = Ok tt
+
+-- one weight more keeps the sum of the weights of start nodes within its limit
+unfoldable pub within_sum : ℤ → ℤ → Result (Unit {0}) CertKind
+within_sum sum weight = if int_le (weight +ℤ sum) (pos most_from) then Ok tt else Err kinds.Total
+
+-- nothing but 1 divides all weights
+unfoldable pub coprime : Weights → Result (Unit {0}) CertKind
+coprime weights = if weights.divisor == 1 then Ok tt else Err kinds.Total
+
+-- nothing but 1 divides the weights of the start points, and there are several start nodes or several start points
+unfoldable pub whole_starts : Starts → Result (Unit {0}) CertKind
+whole_starts starts =
+    if (starts.points.divisor == 1) && (starts.nodes.many || starts.points.many) then Ok tt else Err kinds.Total
+
 -- weights of a mix sum to the mix total
 unfoldable pub sums_to_mix : List ℤ → Result (Unit {0}) CertKind
 sums_to_mix weights = if is_within (pos mix_total) (pos mix_total) (sum_of weights) then Ok tt else Err kinds.Total
@@ -103,18 +132,14 @@ unfoldable pub common_divisor : List ℤ → ℕ
 common_divisor [] = 0
 common_divisor (n ∷ numbers) = divisor_within (common_divisor numbers) (unsigned_abs n) (common_divisor numbers)
 
--- the greatest total of a belief, and the greatest weight in one
-abbrev pub most_belief : ℕ
-most_belief = 1048576
-
 -- parts of a belief have a total in its limits and are coprime
 unfoldable pub belief_total : List ℤ → Result (Unit {0}) CertKind
 belief_total parts = if is_within (pos 1) (pos most_belief) (sum_of parts) && (common_divisor parts == 1) then Ok tt else Err kinds.Total
 
--- no place lacks anything
+-- no pair lacks anything
 unfoldable pub none_lacks : List ℤ → Result (Unit {0}) CertKind
 none_lacks lacking = if list_all (is_within (pos 0) (pos 0)) lacking then Ok tt else Err kinds.Total
 
--- a weight is at most what its place lacks
+-- a weight is at most what its pair lacks
 unfoldable pub fits_lack : ℤ → ℤ → Result (Unit {0}) CertKind
 fits_lack lack weight = if int_le weight lack then Ok tt else Err kinds.Total

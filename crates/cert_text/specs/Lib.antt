@@ -11,3 +11,4 @@ pub mod Made
 pub mod Answers
 pub mod Laws
 pub mod Draft
+pub mod Printed

@@ -9,10 +9,7 @@ use Rattle.game_model.specs.Branches.{Branch}
 use Rattle.point_set.specs.Points.{PointData, no_point}
 use Rattle.std.specs.Prelude.{slice_index_or}
 use Rattle.text_words.specs.Lines.{line_text}
-
--- a line: its first word, and its numbers
-abbrev pub line_of : List ℕ → List ℤ → List ℕ
-line_of name numbers = line_text (name ∷ map signed_decimal numbers)
+use Rattle.text_words.specs.Spelled.{line_of}
 
 -- a line of a fraction: its first word, and numerator and denominator around `/`
 abbrev pub fraction_line : List ℕ → FractionData → List ℕ
@@ -23,8 +20,32 @@ outcome_word Closed = codes "closed"
 outcome_word Trials = codes "trials"
 outcome_word Full = codes "full"
 
+-- the version of the text: 1 for one start node and one start point, 2 for every other certificate
+abbrev pub version_word : List (ℕ × ℤ) → List (ℕ × ℤ) → List ℕ
+version_word (node ∷ []) (point ∷ []) = codes "1"
+version_word nodes points = codes "2"
+
+-- the line of a start: its number and its weight
+abbrev pub start_line : List ℕ → ℕ × ℤ → List ℕ
+start_line name start = line_of name (pos start.0 ∷ start.1 ∷ [])
+
+-- the lines of the starts of version 2
+abbrev pub weighted_text : List (ℕ × ℤ) → List (ℕ × ℤ) → ℤ → List ℕ
+weighted_text nodes points multiple =
+    line_of (codes "multiple") (multiple ∷ [])
+    ++ (flat_map (start_line (codes "from")) nodes ++ flat_map (start_line (codes "over")) points)
+
+-- the lines of the starts
+abbrev pub starts_text : List (ℕ × ℤ) → List (ℕ × ℤ) → ℤ → List ℕ
+starts_text (node ∷ []) (point ∷ []) multiple = line_of (codes "start") (pos node.0 ∷ pos point.0 ∷ [])
+starts_text nodes points multiple = weighted_text nodes points multiple
+
 abbrev pub branch_line : List ℕ → Branch → List ℕ
 branch_line name b = line_of name (pos b.own ∷ pos b.seen ∷ pos b.member ∷ b.weight ∷ [])
+
+-- numbers, a space before each
+abbrev pub numbers_text : List ℤ → List ℕ
+numbers_text numbers = flat_map (λ z. 32 ∷ signed_decimal z) numbers
 
 -- the lines of the node of this number
 abbrev pub node_text : ℕ → NodeData → List ℕ
@@ -33,6 +54,10 @@ node_text i node =
     ++ (line_of (codes "vector") node.vector
     ++ (line_of (codes "mix") node.mix
     ++ flat_map (branch_line (codes "next")) node.next))
+
+-- the weights of a state's mix, a space before each
+abbrev pub weights_text : MixesData → ℕ → List ℕ
+weights_text mixes s = flat_map (λ c. 32 ∷ signed_decimal (mix_at mixes s c)) (below mixes.actions)
 
 -- the line of a state's mix
 abbrev pub mix_text : MixesData → ℕ → List ℕ
@@ -47,22 +72,36 @@ point_text j point =
     ++ (flat_map (mix_text point.mixes) (below point.mixes.states)
     ++ flat_map (branch_line (codes "split")) point.splits)))
 
+abbrev pub starts_in : CertificateData → List ℕ
+starts_in k = starts_text k.start_nodes k.start_points k.multiple
+
+-- the first two lines
+abbrev pub first_text : List ℕ → Ending → List ℕ
+first_text version outcome = line_text (codes "certificate" ∷ version ∷ []) ++ line_text (codes "outcome" ∷ outcome_word outcome ∷ [])
+
 -- the lines before the nodes
 abbrev pub head_text : CertificateData → List ℕ
 head_text k =
-    line_text (codes "certificate" ∷ codes "1" ∷ [])
+    line_text (codes "certificate" ∷ version_word k.start_nodes k.start_points ∷ [])
     ++ (line_text (codes "outcome" ∷ outcome_word k.outcome ∷ [])
     ++ (fraction_line (codes "gap") k.gap
     ++ (fraction_line (codes "lower") k.lower
     ++ (fraction_line (codes "upper") k.upper
     ++ (fraction_line (codes "tail") k.tail
     ++ (line_of (codes "sizes") (pos (length k.nodes) ∷ pos (length k.points) ∷ [])
-    ++ line_of (codes "start") (pos k.start_node ∷ pos k.start_point ∷ [])))))))
+    ++ starts_in k))))))
+
+-- the lines of nodes, and of points
+abbrev pub nodes_text : List NodeData → List ℕ
+nodes_text nodes = flat_map (λ i. node_text i (slice_index_or nodes i no_node)) (below (length nodes))
+
+abbrev pub points_text : List PointData → List ℕ
+points_text points = flat_map (λ j. point_text j (slice_index_or points j no_point)) (below (length points))
 
 -- the text of a certificate: a certificate has just this one
 abbrev pub certificate_text : CertificateData → List ℕ
 certificate_text k =
     head_text k
-    ++ (flat_map (λ i. node_text i (slice_index_or k.nodes i no_node)) (below (length k.nodes))
-    ++ (flat_map (λ j. point_text j (slice_index_or k.points j no_point)) (below (length k.points))
+    ++ (nodes_text k.nodes
+    ++ (points_text k.points
     ++ line_of (codes "end") []))

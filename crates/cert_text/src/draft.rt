@@ -1,16 +1,15 @@
 //! A certificate in the making, and what one more line adds to it.
-ghost use Rattle.std.specs.Prelude.{◌≡◌, ◌++◌, [], ◌∷◌, map, OnOk, IfErr};
+ghost use Rattle.std.specs.Prelude.{◌≡◌, [], ◌∷◌, pos, OnOk, IfOk, IfErr};
 ghost use Rattle.cert_text.specs.declared.fault.CertFault.TheVariants as certs;
+ghost use Rattle.cert_text.specs.Made.{blank, new_point, with_belief, with_entry, with_mix, with_row, with_share, with_step, with_value, with_vector};
+ghost use Rattle.cert_text.specs.Draft.{LastNodeIs, LastSpotIs, draft_data, spot_data};
 ghost use Rattle.alpha_set.specs.Members.{node_data};
-ghost use Rattle.alpha_set.specs.Nodes.{NodeData};
-ghost use Rattle.point_set.specs.Points.{PointData};
-ghost use Rattle.cert_text.specs.Made.{at_last, blank, new_point, with_entry, with_mixes};
-ghost use Rattle.cert_text.specs.Draft.{draft_data, spot_data};
+ghost use Rattle.alpha_set.specs.Nodes.{no_node};
 ghost use Rattle.cert_text.specs.View.{entry_in};
 ghost use Rattle.game_model.specs.Branches.{branch_of};
 
 use crate::fault::CertFault;
-use crate::place::{Entry, Limits};
+use crate::progress::{Entry, Limits};
 use alpha_set::Node;
 use controller::Outcome;
 use game_model::Branch;
@@ -38,8 +37,11 @@ pub struct Draft {
     pub outcome: Outcome,
     pub nodes: Vec<Node>,
     pub points: Vec<Spot>,
-    pub start_node: u32,
-    pub start_point: u32,
+    /// Start nodes and start points with their weights, by rising number.
+    pub start_nodes: Vec<(u32, i128)>,
+    pub start_points: Vec<(u32, i128)>,
+    /// The multiple of the first belief.
+    pub multiple: i128,
 }
 
 /// Before the first line.
@@ -54,13 +56,14 @@ pub fn blank(alloc: Global) -> Draft
         outcome: Outcome::Closed,
         nodes: Vec::new(alloc),
         points: Vec::new(alloc),
-        start_node: 0,
-        start_point: 0,
+        start_nodes: Vec::new(alloc),
+        start_points: Vec::new(alloc),
+        multiple: 0,
     }
 }
 
 fn set_vector(nodes: &mut Vec<Node>, vector: Vec<i128>)
-    ensures { map node_data nodes.new.items ≡ at_last (λ (n : NodeData). record n { vector = vector.items }) (map node_data nodes.old.items) }
+    ensures { LastNodeIs nodes.old.items nodes.new.items (with_vector vector.items) }
 {
     if let Some(node) = nodes.last_mut() {
         node.vector = vector;
@@ -68,7 +71,7 @@ fn set_vector(nodes: &mut Vec<Node>, vector: Vec<i128>)
 }
 
 fn set_mix(nodes: &mut Vec<Node>, mix: Vec<i128>)
-    ensures { map node_data nodes.new.items ≡ at_last (λ (n : NodeData). record n { mix = mix.items }) (map node_data nodes.old.items) }
+    ensures { LastNodeIs nodes.old.items nodes.new.items (with_mix mix.items) }
 {
     if let Some(node) = nodes.last_mut() {
         node.mix = mix;
@@ -76,7 +79,7 @@ fn set_mix(nodes: &mut Vec<Node>, mix: Vec<i128>)
 }
 
 fn add_step(nodes: &mut Vec<Node>, b: Branch) -> Result<(), AllocFailed<Branch>>
-    ensures { OnOk result (map node_data nodes.new.items ≡ at_last (λ (n : NodeData). record n { next = n.next ++ branch_of b ∷ [] }) (map node_data nodes.old.items)) }
+    ensures { OnOk result (LastNodeIs nodes.old.items nodes.new.items (with_step (branch_of b))) }
 {
     if let Some(node) = nodes.last_mut() {
         node.next.push(b)?;
@@ -85,7 +88,7 @@ fn add_step(nodes: &mut Vec<Node>, b: Branch) -> Result<(), AllocFailed<Branch>>
 }
 
 fn set_belief(points: &mut Vec<Spot>, belief: Vec<i128>)
-    ensures { map spot_data points.new.items ≡ at_last (λ (p : PointData). record p { belief = belief.items }) (map spot_data points.old.items) }
+    ensures { LastSpotIs points.old.items points.new.items (with_belief belief.items) }
 {
     if let Some(point) = points.last_mut() {
         point.belief = belief;
@@ -93,7 +96,7 @@ fn set_belief(points: &mut Vec<Spot>, belief: Vec<i128>)
 }
 
 fn set_value(points: &mut Vec<Spot>, value: i128)
-    ensures { map spot_data points.new.items ≡ at_last (λ (p : PointData). record p { value = value }) (map spot_data points.old.items) }
+    ensures { LastSpotIs points.old.items points.new.items (with_value value) }
 {
     if let Some(point) = points.last_mut() {
         point.value = value;
@@ -101,7 +104,7 @@ fn set_value(points: &mut Vec<Spot>, value: i128)
 }
 
 fn add_weights(points: &mut Vec<Spot>, weights: &[i128]) -> Result<(), AllocError>
-    ensures { OnOk result (map spot_data points.new.items ≡ at_last (λ (p : PointData). record p { mixes = with_mixes weights.now p.mixes }) (map spot_data points.old.items)) }
+    ensures { OnOk result (LastSpotIs points.old.items points.new.items (with_row weights.now)) }
 {
     if let Some(point) = points.last_mut() {
         point.weights.extend_from_slice(weights)?;
@@ -110,12 +113,46 @@ fn add_weights(points: &mut Vec<Spot>, weights: &[i128]) -> Result<(), AllocErro
 }
 
 fn add_share(points: &mut Vec<Spot>, b: Branch) -> Result<(), AllocFailed<Branch>>
-    ensures { OnOk result (map spot_data points.new.items ≡ at_last (λ (p : PointData). record p { splits = p.splits ++ branch_of b ∷ [] }) (map spot_data points.old.items)) }
+    ensures { OnOk result (LastSpotIs points.old.items points.new.items (with_share (branch_of b))) }
 {
     if let Some(point) = points.last_mut() {
         point.splits.push(b)?;
     }
     Ok(())
+}
+
+/// A node with nothing said yet.
+fn new_node(alloc: Global) -> Node
+    ensures { node_data result ≡ no_node }
+{
+    Node {
+        vector: Vec::new(alloc),
+        mix: Vec::new(alloc),
+        next: Vec::new(alloc),
+    }
+}
+
+/// A point with nothing said yet.
+fn new_spot(alloc: Global, limits: &Limits) -> Spot
+    ensures { spot_data result ≡ new_point limits.now }
+{
+    Spot {
+        belief: Vec::new(alloc),
+        value: 0,
+        states: limits.states,
+        actions: limits.informed_actions,
+        weights: Vec::new(alloc),
+        splits: Vec::new(alloc),
+    }
+}
+
+/// The one start, of weight 1.
+fn sole(alloc: Global, member: u32) -> Result<Vec<(u32, i128)>, AllocFailed<(u32, i128)>>
+    ensures { IfOk result (λ starts. starts.items ≡ (member, pos 1) ∷ []) }
+{
+    let mut starts = Vec::new(alloc);
+    starts.push((member, 1))?;
+    Ok(starts)
 }
 
 /// Takes what one more line says.
@@ -129,32 +166,25 @@ pub fn take(
     ensures taken { OnOk result (draft_data draft.new ≡ with_entry limits.now (draft_data draft.old) (entry_in entry)) }
 {
     match entry {
-        Entry::Version | Entry::Sizes(_, _) | Entry::End => {}
+        Entry::Version(_) | Entry::Sizes(_, _) | Entry::End => {}
         Entry::Outcome(outcome) => draft.outcome = outcome,
         Entry::Gap(num, den) => draft.gap = (num, den),
         Entry::Lower(num, den) => draft.lower = (num, den),
         Entry::Upper(num, den) => draft.upper = (num, den),
         Entry::Tail(num, den) => draft.tail = (num, den),
         Entry::Start(node, point) => {
-            draft.start_node = node;
-            draft.start_point = point;
+            draft.start_nodes = sole(alloc, node)?;
+            draft.start_points = sole(alloc, point)?;
+            draft.multiple = 1;
         }
-        Entry::Node(_) => draft.nodes.push(Node {
-            vector: Vec::new(alloc),
-            mix: Vec::new(alloc),
-            next: Vec::new(alloc),
-        })?,
+        Entry::Multiple(multiple) => draft.multiple = multiple,
+        Entry::From(node, weight) => draft.start_nodes.push((node, weight))?,
+        Entry::Over(point, weight) => draft.start_points.push((point, weight))?,
+        Entry::Node(_) => draft.nodes.push(new_node(alloc))?,
         Entry::Vector(entries) => set_vector(&mut draft.nodes, entries),
         Entry::Mix(weights) => set_mix(&mut draft.nodes, weights),
         Entry::Next(b) => add_step(&mut draft.nodes, b)?,
-        Entry::Point(_) => draft.points.push(Spot {
-            belief: Vec::new(alloc),
-            value: 0,
-            states: limits.states,
-            actions: limits.informed_actions,
-            weights: Vec::new(alloc),
-            splits: Vec::new(alloc),
-        })?,
+        Entry::Point(_) => draft.points.push(new_spot(alloc, limits))?,
         Entry::Belief(parts) => set_belief(&mut draft.points, parts),
         Entry::Value(value) => set_value(&mut draft.points, value),
         Entry::Mixes(_, weights) => add_weights(&mut draft.points, &weights)?,

@@ -1,17 +1,17 @@
 //! What is wrong with a line or a text of a certificate.
 ghost use Rattle.std.specs.Prelude.{◌≡◌, Ok, Err, MatchResult};
-ghost use Rattle.cert_text.specs.declared.fault.LineFault.TheVariants.{OutOfMemory, Refused};
+ghost use Rattle.text_words.specs.declared.fault.LineFault.TheVariants.{Refused};
 ghost use Rattle.cert_text.specs.declared.fault.CertFault.TheVariants as certs;
-ghost use Rattle.cert_text.specs.Fault.{at_line, number_of_kind, of_numbers};
+ghost use Rattle.cert_text.specs.Fault.{at_line, number_of_kind};
 
 use std::alloc::{AllocError, AllocFailed};
-use text_words::NumbersFault;
+use text_words::LineFault;
 use thiserror::Error;
 
 /// What is wrong with a line. The least kind that applies is reported.
 #[derive(Clone, Copy, Debug, PartialEq, Eq)]
 pub enum CertKind {
-    /// The first line is not `certificate 1`.
+    /// The first line is neither `certificate 1` nor `certificate 2`.
     Version,
     /// The first word, the number of words or the outcome is of no form that is due.
     Shape,
@@ -19,11 +19,12 @@ pub enum CertKind {
     Number,
     /// A number is outside its limits.
     Range,
-    /// A node, a point or a state is not the next one, or a branch is not greater than the one before.
+    /// A node, a point or a state is not the next one, or a branch or a start is not greater than the one before.
     Order,
     /// A node or a point is named that is not there.
     Index,
-    /// Weights do not sum to what they must reach, or those of a belief are not coprime.
+    /// Weights do not sum to what they must reach, or those of a belief or of starts are not coprime, or a text of
+    /// version 2 has one start node and one start point.
     Total,
     /// Bytes follow the `end` line.
     Trailing,
@@ -53,46 +54,11 @@ impl CertKind {
     }
 }
 
-/// Why a line could not be read.
-#[derive(Clone, Copy, Debug, PartialEq, Eq)]
-pub enum LineFault {
-    Refused(CertKind),
-    OutOfMemory,
-}
-
-impl From<CertKind> for LineFault {
+impl From<CertKind> for LineFault<CertKind> {
     ghost from_gives = { λ kind fault. fault ≡ Refused kind };
 
     fn from(kind: CertKind) -> Self {
         LineFault::Refused(kind)
-    }
-}
-
-impl From<NumbersFault> for LineFault {
-    ghost from_gives = { λ numbers fault. fault ≡ of_numbers numbers };
-
-    fn from(fault: NumbersFault) -> Self {
-        match fault {
-            NumbersFault::Shape => LineFault::Refused(CertKind::Shape),
-            NumbersFault::Number => LineFault::Refused(CertKind::Number),
-            NumbersFault::OutOfMemory => LineFault::OutOfMemory,
-        }
-    }
-}
-
-impl From<AllocError> for LineFault {
-    ghost from_gives = { λ _ fault. fault ≡ OutOfMemory };
-
-    fn from(_: AllocError) -> Self {
-        LineFault::OutOfMemory
-    }
-}
-
-impl<T: Drop> From<AllocFailed<T>> for LineFault {
-    ghost from_gives = { λ _ fault. fault ≡ OutOfMemory };
-
-    fn from(_: AllocFailed<T>) -> Self {
-        LineFault::OutOfMemory
     }
 }
 
@@ -124,7 +90,7 @@ impl<T: Drop> From<AllocFailed<T>> for CertFault {
 }
 
 /// What was read of a line of this number.
-pub fn numbered<T>(read: Result<T, LineFault>, line: u32) -> Result<T, CertFault>
+pub fn numbered<T>(read: Result<T, LineFault<CertKind>>, line: u32) -> Result<T, CertFault>
     ensures { MatchResult read (λ value. result ≡ Ok value) (λ fault. result ≡ Err (at_line fault line)) }
 {
     match read {

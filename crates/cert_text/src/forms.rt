@@ -1,14 +1,17 @@
 //! The words and numbers of one line.
 ghost use Rattle.std.specs.Prelude.{◌≡◌, ◌==◌, length, map, IfOk};
+ghost use Rattle.text_words.specs.Lines.{line_in};
 ghost use Rattle.std.specs.List.{slice_split};
-ghost use Rattle.cert_text.specs.Fault.{Gives, seen};
+ghost use Rattle.cert_text.specs.Fault.{seen};
+ghost use Rattle.text_words.specs.Fault.{Gives};
 ghost use Rattle.controller.specs.Data.{ending_of};
 ghost use Rattle.cert_text.specs.View.{fraction_is};
 ghost use Rattle.cert_text.specs.Forms.{are_words, version_line, numbers_after, word_after, outcome_of, fraction_of, fraction_from};
 
-use crate::fault::{CertKind, LineFault};
+use crate::fault::CertKind;
 use controller::Outcome;
 use std::alloc::{AllocError, Global};
+use text_words::LineFault;
 
 /// The numbers of a line that has this first word and this many numbers.
 pub fn numbers_after(
@@ -16,17 +19,17 @@ pub fn numbers_after(
     words: &[&[u8]],
     name: &[u8],
     count: usize,
-) -> Result<Vec<i128>, LineFault>
-    ensures gives { Gives (λ numbers. numbers.items) result (numbers_after name.now count (map (λ word. word.now) words.now)) }
+) -> Result<Vec<i128>, LineFault<CertKind>>
+    ensures gives { Gives (λ numbers. numbers.items) result (numbers_after name.now count (line_in words.now)) }
     ensures count { IfOk result (λ numbers. length numbers.items ≡ count) }
 {
-    Ok(text_words::numbers_after(alloc, words, name, count)?)
+    text_words::numbers_after(alloc, CertKind::Shape, CertKind::Number, words, name, count)
 }
 
 /// The one word after this first word.
 #[tactic(auto, unfolding(crate::specs::Forms::word_after))]
 pub fn word_after<'a>(words: &[&'a [u8]], name: &[u8]) -> Result<&'a [u8], CertKind>
-    ensures { seen (λ word. word.now) result ≡ word_after name.now (map (λ word. word.now) words.now) }
+    ensures { seen (λ word. word.now) result ≡ word_after name.now (line_in words.now) }
 {
     match words {
         [first, word] if *first == name => Ok(*word),
@@ -37,7 +40,7 @@ pub fn word_after<'a>(words: &[&'a [u8]], name: &[u8]) -> Result<&'a [u8], CertK
 /// Whether the line is these two words.
 #[tactic(auto, unfolding(crate::specs::Forms::are_words))]
 fn are_words(name: &[u8], second: &[u8], words: &[&[u8]]) -> bool
-    ensures { result ≡ are_words name.now second.now (map (λ word. word.now) words.now) }
+    ensures { result ≡ are_words name.now second.now (line_in words.now) }
 {
     match words {
         [first, word] => *first == name && *word == second,
@@ -45,15 +48,18 @@ fn are_words(name: &[u8], second: &[u8], words: &[&[u8]]) -> bool
     }
 }
 
-/// The line is `certificate 1`.
+/// The version that the line `certificate 1` or `certificate 2` says.
 #[tactic(auto, unfolding(crate::specs::Forms::version_line))]
-pub fn version(words: &[&[u8]]) -> Result<(), CertKind>
-    ensures { result ≡ version_line (map (λ word. word.now) words.now) }
+pub fn version(words: &[&[u8]]) -> Result<u32, CertKind>
+    ensures { result ≡ version_line (line_in words.now) }
 {
-    if !are_words(b"certificate", b"1", words) {
-        return Err(CertKind::Version);
+    if are_words(b"certificate", b"1", words) {
+        Ok(1)
+    } else if are_words(b"certificate", b"2", words) {
+        Ok(2)
+    } else {
+        Err(CertKind::Version)
     }
-    Ok(())
 }
 
 /// The outcome that a word says.
@@ -75,7 +81,7 @@ pub fn outcome_of(word: &[u8]) -> Result<Outcome, CertKind>
 /// The numerator and the denominator that two words say.
 #[tactic(auto, unfolding(crate::specs::Forms::fraction_from))]
 fn fraction_from(pieces: &[&[u8]]) -> Result<(i128, i128), CertKind>
-    ensures { seen fraction_is result ≡ fraction_from (map (λ word. word.now) pieces.now) }
+    ensures { seen fraction_is result ≡ fraction_from (line_in pieces.now) }
 {
     match pieces {
         [num, den] => {
@@ -96,7 +102,7 @@ fn pieces(alloc: Global, word: &[u8]) -> Result<Vec<&[u8]>, AllocError>
 
 /// The numerator and the denominator that a fraction word says.
 #[tactic(auto, unfolding(crate::specs::Forms::fraction_of))]
-pub fn fraction_of(alloc: Global, word: &[u8]) -> Result<(i128, i128), LineFault>
+pub fn fraction_of(alloc: Global, word: &[u8]) -> Result<(i128, i128), LineFault<CertKind>>
     ensures { Gives fraction_is result (fraction_of word.now) }
 {
     let pieces = pieces(alloc, word)?;

@@ -1,28 +1,29 @@
-//! The lines before the nodes, and the `end` line.
-ghost use Rattle.std.specs.Prelude.{◌≡◌, ◌≤◌, length, map, IfOk, pos, ◌≤ℤ◌};
-ghost use Rattle.cert_text.specs.Fault.{Gives};
+//! The lines before the starts, and the `end` line.
+ghost use Rattle.std.specs.Prelude.{◌≡◌, ◌≤◌, length, IfOk, pos, ◌≤ℤ◌};
+ghost use Rattle.text_words.specs.Lines.{line_in};
+ghost use Rattle.text_words.specs.Fault.{Gives};
 ghost use Rattle.cert_text.specs.View.{entry_in, fraction_is};
-ghost use Rattle.cert_text.specs.Entries.{version_said, outcome_said, gap_said, bound_said, lower_said, upper_said, tail_said, sizes_said, start_said, end_said};
+ghost use Rattle.cert_text.specs.Entries.{version_said, outcome_said, gap_said, bound_said, lower_said, upper_said, tail_said, sizes_said, end_said};
 
-use crate::fault::{CertKind, LineFault};
+use crate::fault::CertKind;
 use crate::forms::{fraction_of, numbers_after, outcome_of, version, word_after};
-use crate::guards::{at_least, few, member_below};
-use crate::place::Entry;
+use crate::guards::{at_least, few};
+use crate::progress::Entry;
 use controller::{MOST_GAP, MOST_GAP_UNDER};
 use std::alloc::Global;
-use text_words::limited;
+use text_words::{LineFault, limited};
 
 #[tactic(auto, unfolding(crate::specs::Entries::version_said))]
-pub fn version_line(words: &[&[u8]]) -> Result<Entry, LineFault>
-    ensures { Gives entry_in result (version_said (map (λ word. word.now) words.now)) }
+pub fn version_line(words: &[&[u8]]) -> Result<Entry, LineFault<CertKind>>
+    ensures { Gives entry_in result (version_said (line_in words.now)) }
 {
-    version(words)?;
-    Ok(Entry::Version)
+    let number = version(words)?;
+    Ok(Entry::Version(number))
 }
 
 #[tactic(auto, unfolding(crate::specs::Entries::outcome_said))]
-pub fn outcome_line(words: &[&[u8]]) -> Result<Entry, LineFault>
-    ensures { Gives entry_in result (outcome_said (map (λ word. word.now) words.now)) }
+pub fn outcome_line(words: &[&[u8]]) -> Result<Entry, LineFault<CertKind>>
+    ensures { Gives entry_in result (outcome_said (line_in words.now)) }
 {
     let word = word_after(words, b"outcome")?;
     Ok(Entry::Outcome(outcome_of(word)?))
@@ -30,8 +31,8 @@ pub fn outcome_line(words: &[&[u8]]) -> Result<Entry, LineFault>
 
 /// A gap: its numerator is 0 to 2^40, and its denominator 1 to 2^20.
 #[tactic(auto, unfolding(crate::specs::Entries::gap_said))]
-pub fn gap_line(alloc: Global, words: &[&[u8]]) -> Result<Entry, LineFault>
-    ensures { Gives entry_in result (gap_said (map (λ word. word.now) words.now)) }
+pub fn gap_line(alloc: Global, words: &[&[u8]]) -> Result<Entry, LineFault<CertKind>>
+    ensures { Gives entry_in result (gap_said (line_in words.now)) }
 {
     let word = word_after(words, b"gap")?;
     let (over, under) = fraction_of(alloc, word)?;
@@ -42,8 +43,12 @@ pub fn gap_line(alloc: Global, words: &[&[u8]]) -> Result<Entry, LineFault>
 
 /// A bound: its denominator is positive.
 #[tactic(auto, unfolding(crate::specs::Entries::bound_said))]
-fn bound_line(alloc: Global, words: &[&[u8]], name: &[u8]) -> Result<(i128, i128), LineFault>
-    ensures { Gives fraction_is result (bound_said name.now (map (λ word. word.now) words.now)) }
+fn bound_line(
+    alloc: Global,
+    words: &[&[u8]],
+    name: &[u8],
+) -> Result<(i128, i128), LineFault<CertKind>>
+    ensures { Gives fraction_is result (bound_said name.now (line_in words.now)) }
 {
     let word = word_after(words, name)?;
     let (num, under) = fraction_of(alloc, word)?;
@@ -52,24 +57,24 @@ fn bound_line(alloc: Global, words: &[&[u8]], name: &[u8]) -> Result<(i128, i128
 }
 
 #[tactic(auto, unfolding(crate::specs::Entries::lower_said))]
-pub fn lower_line(alloc: Global, words: &[&[u8]]) -> Result<Entry, LineFault>
-    ensures { Gives entry_in result (lower_said (map (λ word. word.now) words.now)) }
+pub fn lower_line(alloc: Global, words: &[&[u8]]) -> Result<Entry, LineFault<CertKind>>
+    ensures { Gives entry_in result (lower_said (line_in words.now)) }
 {
     let (num, den) = bound_line(alloc, words, b"lower")?;
     Ok(Entry::Lower(num, den))
 }
 
 #[tactic(auto, unfolding(crate::specs::Entries::upper_said))]
-pub fn upper_line(alloc: Global, words: &[&[u8]]) -> Result<Entry, LineFault>
-    ensures { Gives entry_in result (upper_said (map (λ word. word.now) words.now)) }
+pub fn upper_line(alloc: Global, words: &[&[u8]]) -> Result<Entry, LineFault<CertKind>>
+    ensures { Gives entry_in result (upper_said (line_in words.now)) }
 {
     let (num, den) = bound_line(alloc, words, b"upper")?;
     Ok(Entry::Upper(num, den))
 }
 
 #[tactic(auto, unfolding(crate::specs::Entries::tail_said))]
-pub fn tail_line(alloc: Global, words: &[&[u8]]) -> Result<Entry, LineFault>
-    ensures { Gives entry_in result (tail_said (map (λ word. word.now) words.now)) }
+pub fn tail_line(alloc: Global, words: &[&[u8]]) -> Result<Entry, LineFault<CertKind>>
+    ensures { Gives entry_in result (tail_said (line_in words.now)) }
 {
     let (num, den) = bound_line(alloc, words, b"tail")?;
     Ok(Entry::Tail(num, den))
@@ -77,8 +82,8 @@ pub fn tail_line(alloc: Global, words: &[&[u8]]) -> Result<Entry, LineFault>
 
 /// At least one node, a point for each state, and at most 1,024 of each.
 #[tactic(auto, unfolding(crate::specs::Entries::sizes_said))]
-pub fn sizes_line(alloc: Global, states: u32, words: &[&[u8]]) -> Result<Entry, LineFault>
-    ensures { Gives entry_in result (sizes_said states (map (λ word. word.now) words.now)) }
+pub fn sizes_line(alloc: Global, states: u32, words: &[&[u8]]) -> Result<Entry, LineFault<CertKind>>
+    ensures { Gives entry_in result (sizes_said states (line_in words.now)) }
 {
     let numbers = numbers_after(alloc, words, b"sizes", 2)?;
     let nodes = at_least(1, numbers[0])?;
@@ -86,26 +91,9 @@ pub fn sizes_line(alloc: Global, states: u32, words: &[&[u8]]) -> Result<Entry, 
     Ok(Entry::Sizes(few(nodes)?, few(points)?))
 }
 
-#[tactic(auto, unfolding(crate::specs::Entries::start_said))]
-pub fn start_line(
-    alloc: Global,
-    nodes: u32,
-    points: u32,
-    words: &[&[u8]],
-) -> Result<Entry, LineFault>
-    ensures { Gives entry_in result (start_said nodes points (map (λ word. word.now) words.now)) }
-{
-    let numbers = numbers_after(alloc, words, b"start", 2)?;
-    let i = at_least(0, numbers[0])?;
-    let j = at_least(0, numbers[1])?;
-    let node = member_below(nodes, i)?;
-    let point = member_below(points, j)?;
-    Ok(Entry::Start(node, point))
-}
-
 #[tactic(auto, unfolding(crate::specs::Entries::end_said))]
-pub fn end_line(alloc: Global, words: &[&[u8]]) -> Result<Entry, LineFault>
-    ensures { Gives entry_in result (end_said (map (λ word. word.now) words.now)) }
+pub fn end_line(alloc: Global, words: &[&[u8]]) -> Result<Entry, LineFault<CertKind>>
+    ensures { Gives entry_in result (end_said (line_in words.now)) }
 {
     numbers_after(alloc, words, b"end", 0)?;
     Ok(Entry::End)

@@ -8,9 +8,10 @@ mod guards;
 mod head;
 mod laws;
 mod members;
-mod place;
 mod printing;
+mod progress;
 mod reader;
+mod starts;
 mod texts;
 
 pub use fault::{CertFault, CertKind};

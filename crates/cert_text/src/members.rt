@@ -1,32 +1,33 @@
 //! The lines of nodes and points.
-ghost use Rattle.std.specs.Prelude.{◌≡◌, ◌≤◌, ◌<◌, length, map, drop, IfOk, pos, ◌≤ℤ◌, ◌*ℤ◌, neg_ℤ, All};
+ghost use Rattle.std.specs.Prelude.{◌≡◌, ◌≤◌, ◌<◌, length, drop, IfOk, pos, ◌≤ℤ◌, ◌*ℤ◌, neg_ℤ, All};
+ghost use Rattle.text_words.specs.Lines.{line_in};
 ghost use Rattle.game_model.specs.Branches.{mix_total};
 ghost use Rattle.point_set.specs.Points.{most_share};
-ghost use Rattle.cert_text.specs.Fault.{Gives};
-ghost use Rattle.cert_text.specs.View.{entry_in, AreLimits, IsPlace};
+ghost use Rattle.text_words.specs.Fault.{Gives};
+ghost use Rattle.cert_text.specs.View.{entry_in, AreLimits, IsProgress};
 ghost use Rattle.game_model.specs.Branches.{branch_of};
 ghost use Rattle.cert_text.specs.Entries.{node_said, vector_said, mix_said, branch_said, next_said, point_said, belief_said, value_within, value_said, mixes_said, split_said};
 
-use crate::fault::{CertKind, LineFault};
+use crate::fault::CertKind;
 use crate::forms::numbers_after;
 use crate::guards::{
     at_least, belief_total, fits_lack, is_due, later_branch, member_below, none_lacks, sums_to_mix,
 };
-use crate::place::{Entry, Limits, Place};
+use crate::progress::{Entry, Limits, Progress};
 use game_model::{Branch, MIX_TOTAL, MOST_BELIEF};
 use point_set::MOST_SHARE;
 use std::alloc::Global;
-use text_words::{below_limit, each_within, limited};
+use text_words::{LineFault, below_limit, each_within, limited};
 
-/// The node of this number, where no place of the node before lacks anything.
+/// The node of this number, where no pair of the node before lacks anything.
 #[tactic(auto, unfolding(crate::specs::Entries::node_said))]
 pub fn node_line(
     alloc: Global,
     number: u32,
     lacking: &[i128],
     words: &[&[u8]],
-) -> Result<Entry, LineFault>
-    ensures { Gives entry_in result (node_said number lacking.now (map (λ word. word.now) words.now)) }
+) -> Result<Entry, LineFault<CertKind>>
+    ensures { Gives entry_in result (node_said number lacking.now (line_in words.now)) }
 {
     let numbers = numbers_after(alloc, words, b"node", 1)?;
     is_due(number, numbers[0])?;
@@ -35,9 +36,13 @@ pub fn node_line(
 }
 
 #[tactic(auto, unfolding(crate::specs::Entries::vector_said))]
-pub fn vector_line(alloc: Global, limits: &Limits, words: &[&[u8]]) -> Result<Entry, LineFault>
+pub fn vector_line(
+    alloc: Global,
+    limits: &Limits,
+    words: &[&[u8]],
+) -> Result<Entry, LineFault<CertKind>>
     requires { AreLimits limits.now }
-    ensures { Gives entry_in result (vector_said limits.now (map (λ word. word.now) words.now)) }
+    ensures { Gives entry_in result (vector_said limits.now (line_in words.now)) }
 {
     let entries = numbers_after(alloc, words, b"vector", limits.states as usize)?;
     each_within(CertKind::Range, -limits.span, limits.span, &entries)?;
@@ -45,9 +50,13 @@ pub fn vector_line(alloc: Global, limits: &Limits, words: &[&[u8]]) -> Result<En
 }
 
 #[tactic(auto, unfolding(crate::specs::Entries::mix_said))]
-pub fn mix_line(alloc: Global, limits: &Limits, words: &[&[u8]]) -> Result<Entry, LineFault>
+pub fn mix_line(
+    alloc: Global,
+    limits: &Limits,
+    words: &[&[u8]],
+) -> Result<Entry, LineFault<CertKind>>
     requires { AreLimits limits.now }
-    ensures { Gives entry_in result (mix_said limits.now (map (λ word. word.now) words.now)) }
+    ensures { Gives entry_in result (mix_said limits.now (line_in words.now)) }
 {
     let weights = numbers_after(alloc, words, b"mix", limits.own_actions as usize)?;
     each_within(CertKind::Range, 0, MIX_TOTAL, &weights)?;
@@ -62,45 +71,49 @@ fn branch(
     name: &[u8],
     most: i128,
     members: u32,
-    place: &Place,
+    progress: &Progress,
     words: &[&[u8]],
-) -> Result<Branch, LineFault>
-    ensures gives { Gives branch_of result (branch_said name.now most members place.now (map (λ word. word.now) words.now)) }
-    ensures own { IfOk result (λ b. b.a < place.now.limits.own_actions) }
-    ensures seen { IfOk result (λ b. b.o < place.now.limits.observations) }
+) -> Result<Branch, LineFault<CertKind>>
+    ensures gives { Gives branch_of result (branch_said name.now most members progress.now (line_in words.now)) }
+    ensures own { IfOk result (λ b. b.a < progress.now.limits.own_actions) }
+    ensures seen { IfOk result (λ b. b.o < progress.now.limits.observations) }
 {
     let numbers = numbers_after(alloc, words, name, 4)?;
-    let a = below_limit(CertKind::Range, place.limits.own_actions, numbers[0])?;
-    let o = below_limit(CertKind::Range, place.limits.observations, numbers[1])?;
+    let a = below_limit(CertKind::Range, progress.limits.own_actions, numbers[0])?;
+    let o = below_limit(CertKind::Range, progress.limits.observations, numbers[1])?;
     let number = at_least(0, numbers[2])?;
     let weight = limited(CertKind::Range, 1, most, numbers[3])?;
-    later_branch(place.latest, a, o, number)?;
+    later_branch(progress.latest, a, o, number)?;
     let k = member_below(members, number)?;
     Ok(Branch { a, o, k, weight })
 }
 
-/// A step: no earlier place lacks anything, and this one lacks its weight.
+/// A step: no earlier pair lacks anything, and its own lacks its weight.
 #[tactic(auto, unfolding(crate::specs::Entries::next_said))]
-pub fn next_line(alloc: Global, place: &Place, words: &[&[u8]]) -> Result<Entry, LineFault>
-    requires { IsPlace place.now }
-    ensures { Gives entry_in result (next_said place.now (map (λ word. word.now) words.now)) }
+pub fn next_line(
+    alloc: Global,
+    progress: &Progress,
+    words: &[&[u8]],
+) -> Result<Entry, LineFault<CertKind>>
+    requires { IsProgress progress.now }
+    ensures { Gives entry_in result (next_said progress.now (line_in words.now)) }
 {
-    let b = branch(alloc, b"next", MIX_TOTAL, place.nodes, place, words)?;
-    let i = (b.a * place.limits.observations + b.o) as usize;
-    none_lacks(&place.lacking[..i])?;
-    fits_lack(place.lacking[i], b.weight)?;
+    let b = branch(alloc, b"next", MIX_TOTAL, progress.nodes, progress, words)?;
+    let i = (b.a * progress.limits.observations + b.o) as usize;
+    none_lacks(&progress.lacking[..i])?;
+    fits_lack(progress.lacking[i], b.weight)?;
     Ok(Entry::Next(b))
 }
 
-/// The point of this number, where no place of the last node lacks anything.
+/// The point of this number, where no pair of the last node lacks anything.
 #[tactic(auto, unfolding(crate::specs::Entries::point_said))]
 pub fn point_line(
     alloc: Global,
     number: u32,
     lacking: &[i128],
     words: &[&[u8]],
-) -> Result<Entry, LineFault>
-    ensures { Gives entry_in result (point_said number lacking.now (map (λ word. word.now) words.now)) }
+) -> Result<Entry, LineFault<CertKind>>
+    ensures { Gives entry_in result (point_said number lacking.now (line_in words.now)) }
 {
     let numbers = numbers_after(alloc, words, b"point", 1)?;
     is_due(number, numbers[0])?;
@@ -109,9 +122,13 @@ pub fn point_line(
 }
 
 #[tactic(auto, unfolding(crate::specs::Entries::belief_said))]
-pub fn belief_line(alloc: Global, limits: &Limits, words: &[&[u8]]) -> Result<Entry, LineFault>
+pub fn belief_line(
+    alloc: Global,
+    limits: &Limits,
+    words: &[&[u8]],
+) -> Result<Entry, LineFault<CertKind>>
     requires { AreLimits limits.now }
-    ensures { Gives entry_in result (belief_said limits.now (map (λ word. word.now) words.now)) }
+    ensures { Gives entry_in result (belief_said limits.now (line_in words.now)) }
 {
     let parts = numbers_after(alloc, words, b"belief", limits.states as usize)?;
     each_within(CertKind::Range, 0, MOST_BELIEF, &parts)?;
@@ -120,44 +137,48 @@ pub fn belief_line(alloc: Global, limits: &Limits, words: &[&[u8]]) -> Result<En
 }
 
 /// The greatest value of a point: the span times the belief's total.
-fn most_value(place: &Place) -> i128
-    requires { IsPlace place.now }
-    ensures value { result ≡ place.now.limits.span *ℤ place.now.total }
+fn most_value(progress: &Progress) -> i128
+    requires { IsProgress progress.now }
+    ensures value { result ≡ progress.now.limits.span *ℤ progress.now.total }
     ensures low { pos 0 ≤ℤ result }
 {
-    place.limits.span * place.total
+    progress.limits.span * progress.total
 }
 
 /// The least value of a point.
-fn least_value(place: &Place) -> i128
-    requires { IsPlace place.now }
-    ensures { result ≡ neg_ℤ (place.now.limits.span *ℤ place.now.total) }
+fn least_value(progress: &Progress) -> i128
+    requires { IsProgress progress.now }
+    ensures { result ≡ neg_ℤ (progress.now.limits.span *ℤ progress.now.total) }
 {
-    -most_value(place)
+    -most_value(progress)
 }
 
 /// The value, where it is within the span times the belief's total.
 #[tactic(auto, unfolding(crate::specs::Entries::value_within))]
-fn value_within(place: &Place, value: i128) -> Result<i128, CertKind>
-    requires { IsPlace place.now }
-    ensures { result ≡ value_within place.now.limits.span place.now.total value }
+fn value_within(progress: &Progress, value: i128) -> Result<i128, CertKind>
+    requires { IsProgress progress.now }
+    ensures { result ≡ value_within progress.now.limits.span progress.now.total value }
 {
     limited(
         CertKind::Range,
-        least_value(place),
-        most_value(place),
+        least_value(progress),
+        most_value(progress),
         value,
     )
 }
 
 /// A value within the span times the belief's total.
 #[tactic(auto, unfolding(crate::specs::Entries::value_said))]
-pub fn value_line(alloc: Global, place: &Place, words: &[&[u8]]) -> Result<Entry, LineFault>
-    requires { IsPlace place.now }
-    ensures { Gives entry_in result (value_said place.now.limits place.now.total (map (λ word. word.now) words.now)) }
+pub fn value_line(
+    alloc: Global,
+    progress: &Progress,
+    words: &[&[u8]],
+) -> Result<Entry, LineFault<CertKind>>
+    requires { IsProgress progress.now }
+    ensures { Gives entry_in result (value_said progress.now.limits progress.now.total (line_in words.now)) }
 {
     let numbers = numbers_after(alloc, words, b"value", 1)?;
-    let value = value_within(place, numbers[0])?;
+    let value = value_within(progress, numbers[0])?;
     Ok(Entry::Value(value))
 }
 
@@ -168,9 +189,9 @@ pub fn mixes_line(
     limits: &Limits,
     state: u32,
     words: &[&[u8]],
-) -> Result<Entry, LineFault>
+) -> Result<Entry, LineFault<CertKind>>
     requires { AreLimits limits.now }
-    ensures { Gives entry_in result (mixes_said limits.now state (map (λ word. word.now) words.now)) }
+    ensures { Gives entry_in result (mixes_said limits.now state (line_in words.now)) }
 {
     let numbers = numbers_after(alloc, words, b"mix", limits.informed_actions as usize + 1)?;
     let weights = &numbers[1..];
@@ -181,9 +202,20 @@ pub fn mixes_line(
 }
 
 #[tactic(auto, unfolding(crate::specs::Entries::split_said))]
-pub fn split_line(alloc: Global, place: &Place, words: &[&[u8]]) -> Result<Entry, LineFault>
-    ensures { Gives entry_in result (split_said place.now (map (λ word. word.now) words.now)) }
+pub fn split_line(
+    alloc: Global,
+    progress: &Progress,
+    words: &[&[u8]],
+) -> Result<Entry, LineFault<CertKind>>
+    ensures { Gives entry_in result (split_said progress.now (line_in words.now)) }
 {
-    let b = branch(alloc, b"split", MOST_SHARE, place.points, place, words)?;
+    let b = branch(
+        alloc,
+        b"split",
+        MOST_SHARE,
+        progress.points,
+        progress,
+        words,
+    )?;
     Ok(Entry::Split(b))
 }

@@ -1,18 +1,14 @@
 //! The text of a certificate, printed.
-ghost use Rattle.std.specs.Prelude.{◌≡◌, ◌<◌, ◌++◌, [], ◌∷◌, codes, flat_map, map, length, pos, slice_index_or, IfOk, OnOk};
-ghost use Rattle.std.specs.Fmt.{signed_decimal};
-ghost use Rattle.std.specs.String.{string_bytes};
+ghost use Rattle.std.specs.Prelude.{◌≡◌, ◌<◌, [], ◌∷◌, flat_map, map, pos, IfOk, OnOk};
 ghost use Rattle.scaled_num.specs.Sums.{below};
 ghost use Rattle.game_model.specs.Branches.{branch_of};
 ghost use Rattle.alpha_set.specs.Members.{node_data};
-ghost use Rattle.alpha_set.specs.Nodes.{no_node};
-ghost use Rattle.belief.specs.Mixes.{mix_at};
 ghost use Rattle.controller.specs.Certificates.{CertificateFits};
 ghost use Rattle.controller.specs.Data.{ending_of, fraction_data};
 ghost use Rattle.point_set.specs.Members.{point_data};
-ghost use Rattle.point_set.specs.Points.{no_point};
-ghost use Rattle.text_words.specs.Lines.{line_text};
-ghost use Rattle.cert_text.specs.Text.{branch_line, certificate_text, fraction_line, head_text, line_of, mix_text, node_text, outcome_word, point_text};
+ghost use Rattle.cert_text.specs.Text.{branch_line, certificate_text, first_text, fraction_line, head_text, mix_text, node_text, nodes_text, numbers_text, outcome_word, point_text, points_text, start_line, starts_in, starts_text, version_word, weighted_text, weights_text};
+ghost use Rattle.text_words.specs.Spelled.{line_of};
+ghost use Rattle.cert_text.specs.Printed.{Adds};
 
 use alpha_set::{Node, NodeSet};
 use belief::Mixes;
@@ -24,7 +20,7 @@ use std::alloc::{AllocError, Global};
 
 /// Writes numbers, a space before each.
 fn numbers(text: &mut String, numbers: &[i128]) -> Result<(), AllocError>
-    ensures { OnOk result (string_bytes text.new ≡ string_bytes text.old ++ flat_map (λ z. 32 ∷ signed_decimal z) numbers.now) }
+    ensures { OnOk result (Adds text.old text.new (numbers_text numbers.now)) }
 {
     for number in numbers {
         write!(text, " {number}")?;
@@ -34,7 +30,7 @@ fn numbers(text: &mut String, numbers: &[i128]) -> Result<(), AllocError>
 
 /// Writes a line: its first word, and its numbers.
 fn line(text: &mut String, name: &str, members: &[i128]) -> Result<(), AllocError>
-    ensures { OnOk result (string_bytes text.new ≡ string_bytes text.old ++ line_of name.now members.now) }
+    ensures { OnOk result (Adds text.old text.new (line_of name.now members.now)) }
 {
     text.push_str(name)?;
     numbers(text, members)?;
@@ -43,7 +39,7 @@ fn line(text: &mut String, name: &str, members: &[i128]) -> Result<(), AllocErro
 
 /// Writes the line of a fraction.
 fn fraction_line(text: &mut String, name: &str, fraction: &Fraction) -> Result<(), AllocError>
-    ensures { OnOk result (string_bytes text.new ≡ string_bytes text.old ++ fraction_line name.now (fraction_data fraction.now)) }
+    ensures { OnOk result (Adds text.old text.new (fraction_line name.now (fraction_data fraction.now))) }
 {
     writeln!(text, "{name} {}/{}", fraction.num, fraction.den)
 }
@@ -61,7 +57,7 @@ fn outcome_word(outcome: Outcome) -> &'static str
 
 /// Writes the line of a branch under a name.
 fn branch_line(text: &mut String, name: &str, branch: &Branch) -> Result<(), AllocError>
-    ensures { OnOk result (string_bytes text.new ≡ string_bytes text.old ++ branch_line name.now (branch_of branch.now)) }
+    ensures { OnOk result (Adds text.old text.new (branch_line name.now (branch_of branch.now))) }
 {
     line(
         text,
@@ -77,7 +73,7 @@ fn branch_line(text: &mut String, name: &str, branch: &Branch) -> Result<(), All
 
 /// Writes the lines of branches under a name.
 fn branch_lines(text: &mut String, name: &str, branches: &[Branch]) -> Result<(), AllocError>
-    ensures { OnOk result (string_bytes text.new ≡ string_bytes text.old ++ flat_map (branch_line name.now) (map branch_of branches.now)) }
+    ensures { OnOk result (Adds text.old text.new (flat_map (branch_line name.now) (map branch_of branches.now))) }
 {
     for branch in branches {
         branch_line(text, name, branch)?;
@@ -87,7 +83,7 @@ fn branch_lines(text: &mut String, name: &str, branches: &[Branch]) -> Result<()
 
 /// Writes the lines of the node of this number.
 fn node_lines(text: &mut String, i: u32, node: &Node) -> Result<(), AllocError>
-    ensures { OnOk result (string_bytes text.new ≡ string_bytes text.old ++ node_text i (node_data node.now)) }
+    ensures { OnOk result (Adds text.old text.new (node_text i (node_data node.now))) }
 {
     line(text, "node", &[i128::from(i)])?;
     line(text, "vector", &node.vector)?;
@@ -97,7 +93,7 @@ fn node_lines(text: &mut String, i: u32, node: &Node) -> Result<(), AllocError>
 
 /// Writes the lines of nodes.
 fn nodes_lines(text: &mut String, nodes: &NodeSet) -> Result<(), AllocError>
-    ensures { OnOk result (string_bytes text.new ≡ string_bytes text.old ++ flat_map (λ i. node_text i (slice_index_or nodes.now.members i no_node)) (below (length nodes.now.members))) }
+    ensures { OnOk result (Adds text.old text.new (nodes_text nodes.now.members)) }
 {
     for i in 0..nodes.len() {
         node_lines(text, i, nodes.node(i))?;
@@ -108,7 +104,7 @@ fn nodes_lines(text: &mut String, nodes: &NodeSet) -> Result<(), AllocError>
 /// Writes the weights of a state's mix, a space before each.
 fn weights(text: &mut String, mixes: &Mixes, s: u32) -> Result<(), AllocError>
     requires { s < mixes.now.states }
-    ensures { OnOk result (string_bytes text.new ≡ string_bytes text.old ++ flat_map (λ c. 32 ∷ signed_decimal (mix_at mixes.now s c)) (below mixes.now.actions)) }
+    ensures { OnOk result (Adds text.old text.new (weights_text mixes.now s)) }
 {
     for c in 0..mixes.actions() {
         write!(text, " {}", mixes.get(s, c))?;
@@ -119,7 +115,7 @@ fn weights(text: &mut String, mixes: &Mixes, s: u32) -> Result<(), AllocError>
 /// Writes the line of a state's mix.
 fn mix_line(text: &mut String, mixes: &Mixes, s: u32) -> Result<(), AllocError>
     requires { s < mixes.now.states }
-    ensures { OnOk result (string_bytes text.new ≡ string_bytes text.old ++ mix_text mixes.now s) }
+    ensures { OnOk result (Adds text.old text.new (mix_text mixes.now s)) }
 {
     write!(text, "mix {s}")?;
     weights(text, mixes, s)?;
@@ -128,7 +124,7 @@ fn mix_line(text: &mut String, mixes: &Mixes, s: u32) -> Result<(), AllocError>
 
 /// Writes the lines of the mixes of all states.
 fn mix_lines(text: &mut String, mixes: &Mixes) -> Result<(), AllocError>
-    ensures { OnOk result (string_bytes text.new ≡ string_bytes text.old ++ flat_map (mix_text mixes.now) (below mixes.now.states)) }
+    ensures { OnOk result (Adds text.old text.new (flat_map (mix_text mixes.now) (below mixes.now.states))) }
 {
     for s in 0..mixes.states() {
         mix_line(text, mixes, s)?;
@@ -138,7 +134,7 @@ fn mix_lines(text: &mut String, mixes: &Mixes) -> Result<(), AllocError>
 
 /// Writes the lines of the point of this number.
 fn point_lines(text: &mut String, j: u32, point: &Point) -> Result<(), AllocError>
-    ensures { OnOk result (string_bytes text.new ≡ string_bytes text.old ++ point_text j (point_data point.now)) }
+    ensures { OnOk result (Adds text.old text.new (point_text j (point_data point.now))) }
 {
     line(text, "point", &[i128::from(j)])?;
     line(text, "belief", point.belief.parts())?;
@@ -149,7 +145,7 @@ fn point_lines(text: &mut String, j: u32, point: &Point) -> Result<(), AllocErro
 
 /// Writes the lines of points.
 fn points_lines(text: &mut String, points: &PointSet) -> Result<(), AllocError>
-    ensures { OnOk result (string_bytes text.new ≡ string_bytes text.old ++ flat_map (λ j. point_text j (slice_index_or points.now.members j no_point)) (below (length points.now.members))) }
+    ensures { OnOk result (Adds text.old text.new (points_text points.now.members)) }
 {
     for j in 0..points.len() {
         point_lines(text, j, points.point(j))?;
@@ -159,23 +155,97 @@ fn points_lines(text: &mut String, points: &PointSet) -> Result<(), AllocError>
 
 /// Writes a line of two numbers.
 fn pair_line(text: &mut String, name: &str, first: u32, second: u32) -> Result<(), AllocError>
-    ensures { OnOk result (string_bytes text.new ≡ string_bytes text.old ++ line_of name.now (pos first ∷ pos second ∷ [])) }
+    ensures { OnOk result (Adds text.old text.new (line_of name.now (pos first ∷ pos second ∷ []))) }
 {
     line(text, name, &[i128::from(first), i128::from(second)])
 }
 
 /// Writes the first two lines.
-fn first_lines(text: &mut String, outcome: Outcome) -> Result<(), AllocError>
-    ensures { OnOk result (string_bytes text.new ≡ string_bytes text.old ++ (line_text (codes "certificate" ∷ codes "1" ∷ []) ++ line_text (codes "outcome" ∷ outcome_word (ending_of outcome) ∷ []))) }
+fn first_lines(text: &mut String, version: &str, outcome: Outcome) -> Result<(), AllocError>
+    ensures { OnOk result (Adds text.old text.new (first_text version.now (ending_of outcome))) }
 {
-    writeln!(text, "certificate 1\noutcome {}", outcome_word(outcome))
+    writeln!(
+        text,
+        "certificate {version}\noutcome {}",
+        outcome_word(outcome)
+    )
+}
+
+/// The version of the text: 1 for one start node and one start point, 2 for every other certificate.
+fn version(certificate: &Certificate) -> &'static str
+    ensures { result.now ≡ version_word certificate.now.start_nodes certificate.now.start_points }
+{
+    if certificate.start_nodes.len() == 1 && certificate.start_points.len() == 1 {
+        "1"
+    } else {
+        "2"
+    }
+}
+
+/// Writes the line of a start.
+fn start_line(text: &mut String, name: &str, start: &(u32, i128)) -> Result<(), AllocError>
+    ensures { OnOk result (Adds text.old text.new (start_line name.now start.now)) }
+{
+    line(text, name, &[i128::from(start.0), start.1])
+}
+
+/// Writes the lines of starts under a name.
+fn start_lines(text: &mut String, name: &str, starts: &[(u32, i128)]) -> Result<(), AllocError>
+    ensures { OnOk result (Adds text.old text.new (flat_map (start_line name.now) starts.now)) }
+{
+    for start in starts {
+        start_line(text, name, start)?;
+    }
+    Ok(())
+}
+
+/// Writes the lines of starts of version 2.
+fn weighted_lines(
+    text: &mut String,
+    nodes: &[(u32, i128)],
+    points: &[(u32, i128)],
+    multiple: i128,
+) -> Result<(), AllocError>
+    ensures { OnOk result (Adds text.old text.new (weighted_text nodes.now points.now multiple)) }
+{
+    line(text, "multiple", &[multiple])?;
+    start_lines(text, "from", nodes)?;
+    start_lines(text, "over", points)
+}
+
+/// Writes the lines of the starts.
+fn starts_lines(
+    text: &mut String,
+    nodes: &[(u32, i128)],
+    points: &[(u32, i128)],
+    multiple: i128,
+) -> Result<(), AllocError>
+    ensures { OnOk result (Adds text.old text.new (starts_text nodes.now points.now multiple)) }
+{
+    if nodes.len() == 1 && points.len() == 1 {
+        pair_line(text, "start", nodes[0].0, points[0].0)
+    } else {
+        weighted_lines(text, nodes, points, multiple)
+    }
+}
+
+/// Writes the lines of a certificate's starts.
+fn certificate_starts(text: &mut String, certificate: &Certificate) -> Result<(), AllocError>
+    ensures { OnOk result (Adds text.old text.new (starts_in certificate.now)) }
+{
+    starts_lines(
+        text,
+        &certificate.start_nodes,
+        &certificate.start_points,
+        certificate.multiple,
+    )
 }
 
 /// Writes the lines before the nodes.
 fn head_lines(text: &mut String, certificate: &Certificate) -> Result<(), AllocError>
-    ensures { OnOk result (string_bytes text.new ≡ string_bytes text.old ++ head_text certificate.now) }
+    ensures { OnOk result (Adds text.old text.new (head_text certificate.now)) }
 {
-    first_lines(text, certificate.outcome)?;
+    first_lines(text, version(certificate), certificate.outcome)?;
     fraction_line(text, "gap", &certificate.gap)?;
     fraction_line(text, "lower", &certificate.lower)?;
     fraction_line(text, "upper", &certificate.upper)?;
@@ -186,15 +256,11 @@ fn head_lines(text: &mut String, certificate: &Certificate) -> Result<(), AllocE
         certificate.nodes.len(),
         certificate.points.len(),
     )?;
-    pair_line(
-        text,
-        "start",
-        certificate.start_node,
-        certificate.start_point,
-    )
+    certificate_starts(text, certificate)
 }
 
-/// The one text of a certificate that fits the game. Where it has at most 2^27 bytes, `read` for that game accepts it
+/// The one text of a certificate that fits the game: of version 1 for one start node and one start point, of version
+/// 2 for every other certificate. Where it has at most 2^27 bytes, `read` for that game accepts it
 /// and answers the certificate again: by `law_read` no line of it is refused, and by `law_one` it is the text of no
 /// other certificate.
 ///

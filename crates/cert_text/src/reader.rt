@@ -1,55 +1,115 @@
-//! Reads line by line, each at its place, into a draft.
-ghost use Rattle.std.specs.Prelude.{◌≡◌, ◌+◌, ◌*◌, ◌/◌, ◌^◌, ◌<◌, ◌≤◌, ℕ, List, [], ◌∷◌, length, map, IfOk, IfErr, ◌==◌, All, pos, ◌≤ℤ◌, slice_index_or};
+//! Reads line by line, each by what the lines before it say, into a draft.
+ghost use Rattle.std.specs.Prelude.{◌≡◌, ◌+◌, ◌*◌, ◌/◌, ◌^◌, ◌<◌, ◌≤◌, ℕ, List, [], ◌∷◌, length, IfOk, IfErr, ◌==◌, All, pos, ◌+ℤ◌, ◌≤ℤ◌, slice_index_or, unsigned_abs};
 ghost use Rattle.std.specs.List.{after_first};
 ghost use Rattle.scaled_num.specs.Sums.{below, sum_of};
-ghost use Rattle.text_words.specs.Lines.{after_lines, lines_of};
-ghost use Rattle.cert_text.specs.Fault.{Gives};
-ghost use Rattle.cert_text.specs.View.{IsPlace, FitsPlace, entry_in};
-ghost use Rattle.cert_text.specs.Steps.{Accepts, IsUnfinished, first_of, line_at};
+ghost use Rattle.text_words.specs.Lines.{after_lines, line_in, lines_of};
+ghost use Rattle.text_words.specs.Fault.{Gives};
+ghost use Rattle.cert_text.specs.View.{IsLack, IsProgress, FitsProgress, entry_in};
+ghost use Rattle.cert_text.specs.Steps.{Accepts, IsUnfinished, line_at};
 ghost use Rattle.cert_text.specs.Steps.{IsDraftOf, IsFaultOf};
 ghost use Rattle.cert_text.specs.Draft.{draft_data};
-ghost use Rattle.cert_text.specs.Entries.{entry_of, in_node, in_point, in_mixes, lacking_less, lacking_of, place_after};
+ghost use Rattle.controller.specs.Starts.{most_from};
+ghost use Rattle.game_model.specs.Game.{IsWithin};
+ghost use Rattle.cert_text.specs.Forms.{divisor_within};
+ghost use Rattle.cert_text.specs.Entries.{entry_of, in_sizes, in_from, in_over, in_node, in_point, in_mixes, lacking_less, lacking_of, latest_of, progress_after, with_from, with_weight};
 
 use crate::draft::{Draft, blank, take};
-use crate::fault::{CertFault, CertKind, LineFault, numbered};
+use crate::fault::{CertFault, CertKind, numbered};
 use crate::head::{
-    end_line, gap_line, lower_line, outcome_line, sizes_line, start_line, tail_line, upper_line,
-    version_line,
+    end_line, gap_line, lower_line, outcome_line, sizes_line, tail_line, upper_line, version_line,
 };
 use crate::members::{
     belief_line, mix_line, mixes_line, next_line, node_line, point_line, split_line, value_line,
     vector_line,
 };
-use crate::place::{Entry, Latest, MOST_PLACES, Place};
-use scaled_num::sum;
+use crate::progress::{Entry, Latest, MOST_PAIRS, Progress, Starts, Weights};
+use crate::starts::{first_line, from_line, multiple_line, over_line, start_line};
+use scaled_num::{gcd, sum};
 use std::alloc::Global;
-use text_words::begins;
+use text_words::{LineFault, begins, first_words};
+
+/// After the `sizes` line: the one line of starts of version 1, or the first one of version 2.
+#[tactic(auto, unfolding(crate::specs::Entries::in_sizes))]
+fn in_sizes(
+    alloc: Global,
+    progress: &Progress,
+    words: &[&[u8]],
+) -> Result<Entry, LineFault<CertKind>>
+    ensures { Gives entry_in result (in_sizes progress.now (line_in words.now)) }
+{
+    if progress.starts.version == 1 {
+        start_line(alloc, progress.nodes, progress.points, words)
+    } else {
+        multiple_line(alloc, words)
+    }
+}
+
+/// After a `from` line: another one, or the first `over` line.
+#[tactic(auto, unfolding(crate::specs::Entries::in_from))]
+fn in_from(
+    alloc: Global,
+    progress: &Progress,
+    words: &[&[u8]],
+) -> Result<Entry, LineFault<CertKind>>
+    requires { IsProgress progress.now }
+    ensures { Gives entry_in result (in_from progress.now (line_in words.now)) }
+{
+    if begins(b"from", words) {
+        from_line(alloc, progress, words)
+    } else {
+        over_line(alloc, progress, words)
+    }
+}
+
+/// After an `over` line: another one, or the first node.
+#[tactic(auto, unfolding(crate::specs::Entries::in_over))]
+fn in_over(
+    alloc: Global,
+    progress: &Progress,
+    words: &[&[u8]],
+) -> Result<Entry, LineFault<CertKind>>
+    ensures { Gives entry_in result (in_over progress.now (line_in words.now)) }
+{
+    if begins(b"over", words) {
+        over_line(alloc, progress, words)
+    } else {
+        first_line(alloc, &progress.starts, words)
+    }
+}
 
 /// After a node's `mix` or `next` line: a `next` line, the next node, or the first point.
 #[tactic(auto, unfolding(crate::specs::Entries::in_node))]
-fn in_node(alloc: Global, place: &Place, words: &[&[u8]]) -> Result<Entry, LineFault>
-    requires { IsPlace place.now }
-    ensures { Gives entry_in result (in_node place.now (map (λ word. word.now) words.now)) }
+fn in_node(
+    alloc: Global,
+    progress: &Progress,
+    words: &[&[u8]],
+) -> Result<Entry, LineFault<CertKind>>
+    requires { IsProgress progress.now }
+    ensures { Gives entry_in result (in_node progress.now (line_in words.now)) }
 {
     if begins(b"next", words) {
-        next_line(alloc, place, words)
-    } else if place.begun < place.nodes {
-        node_line(alloc, place.begun, &place.lacking, words)
+        next_line(alloc, progress, words)
+    } else if progress.begun < progress.nodes {
+        node_line(alloc, progress.begun, &progress.lacking, words)
     } else {
-        point_line(alloc, 0, &place.lacking, words)
+        point_line(alloc, 0, &progress.lacking, words)
     }
 }
 
 /// After a point's last `mix` line or a `split` line: a `split` line, the next point, or `end`.
 #[tactic(auto, unfolding(crate::specs::Entries::in_point))]
-fn in_point(alloc: Global, place: &Place, words: &[&[u8]]) -> Result<Entry, LineFault>
-    requires { IsPlace place.now }
-    ensures { Gives entry_in result (in_point place.now (map (λ word. word.now) words.now)) }
+fn in_point(
+    alloc: Global,
+    progress: &Progress,
+    words: &[&[u8]],
+) -> Result<Entry, LineFault<CertKind>>
+    requires { IsProgress progress.now }
+    ensures { Gives entry_in result (in_point progress.now (line_in words.now)) }
 {
     if begins(b"split", words) {
-        split_line(alloc, place, words)
-    } else if place.begun < place.points {
-        point_line(alloc, place.begun, &[], words)
+        split_line(alloc, progress, words)
+    } else if progress.begun < progress.points {
+        point_line(alloc, progress.begun, &[], words)
     } else {
         end_line(alloc, words)
     }
@@ -57,76 +117,74 @@ fn in_point(alloc: Global, place: &Place, words: &[&[u8]]) -> Result<Entry, Line
 
 /// After the `mix` line of a state of a point.
 #[tactic(auto, unfolding(crate::specs::Entries::in_mixes))]
-fn in_mixes(alloc: Global, place: &Place, words: &[&[u8]]) -> Result<Entry, LineFault>
-    requires { IsPlace place.now }
-    ensures { Gives entry_in result (in_mixes place.now (map (λ word. word.now) words.now)) }
+fn in_mixes(
+    alloc: Global,
+    progress: &Progress,
+    words: &[&[u8]],
+) -> Result<Entry, LineFault<CertKind>>
+    requires { IsProgress progress.now }
+    ensures { Gives entry_in result (in_mixes progress.now (line_in words.now)) }
 {
-    if place.state < place.limits.states {
-        mixes_line(alloc, &place.limits, place.state, words)
+    if progress.state < progress.limits.states {
+        mixes_line(alloc, &progress.limits, progress.state, words)
     } else {
-        in_point(alloc, place, words)
+        in_point(alloc, progress, words)
     }
 }
 
-/// What a line says at a place.
+/// What a line says where the reading is this far.
 #[tactic(auto, unfolding(crate::specs::Entries::entry_after))]
-fn entry(alloc: Global, place: &Place, words: &[&[u8]]) -> Result<Entry, LineFault>
-    requires { IsPlace place.now }
-    ensures { Gives entry_in result (entry_of place.now (map (λ word. word.now) words.now)) }
+fn entry(alloc: Global, progress: &Progress, words: &[&[u8]]) -> Result<Entry, LineFault<CertKind>>
+    requires { IsProgress progress.now }
+    ensures { Gives entry_in result (entry_of progress.now (line_in words.now)) }
 {
-    match place.latest {
+    match progress.latest {
         Latest::Nothing => version_line(words),
         Latest::Version => outcome_line(words),
         Latest::Outcome => gap_line(alloc, words),
         Latest::Gap => lower_line(alloc, words),
         Latest::Lower => upper_line(alloc, words),
         Latest::Upper => tail_line(alloc, words),
-        Latest::Tail => sizes_line(alloc, place.limits.states, words),
-        Latest::Sizes => start_line(alloc, place.nodes, place.points, words),
+        Latest::Tail => sizes_line(alloc, progress.limits.states, words),
+        Latest::Sizes => in_sizes(alloc, progress, words),
         Latest::Start => node_line(alloc, 0, &[], words),
-        Latest::Node => vector_line(alloc, &place.limits, words),
-        Latest::Vector => mix_line(alloc, &place.limits, words),
-        Latest::Mix | Latest::Next(_, _, _) => in_node(alloc, place, words),
-        Latest::Point => belief_line(alloc, &place.limits, words),
-        Latest::Belief => value_line(alloc, place, words),
-        Latest::Value => mixes_line(alloc, &place.limits, 0, words),
-        Latest::Mixes => in_mixes(alloc, place, words),
-        Latest::Split(_, _, _) => in_point(alloc, place, words),
+        Latest::Multiple => from_line(alloc, progress, words),
+        Latest::From(_) => in_from(alloc, progress, words),
+        Latest::Over(_) => in_over(alloc, progress, words),
+        Latest::Node => vector_line(alloc, &progress.limits, words),
+        Latest::Vector => mix_line(alloc, &progress.limits, words),
+        Latest::Mix | Latest::Next(_, _, _) => in_node(alloc, progress, words),
+        Latest::Point => belief_line(alloc, &progress.limits, words),
+        Latest::Belief => value_line(alloc, progress, words),
+        Latest::Value => mixes_line(alloc, &progress.limits, 0, words),
+        Latest::Mixes => in_mixes(alloc, progress, words),
+        Latest::Split(_, _, _) => in_point(alloc, progress, words),
         Latest::End => Err(CertKind::Trailing.into()),
     }
 }
 
-/// The words of the first line, and what follows it.
-fn first_words(alloc: Global, text: &[u8]) -> Result<(Vec<&[u8]>, &[u8]), LineFault>
-    ensures gives { Gives (λ found. (map (λ word. word.now) found.0.items, lines_of found.1.now)) result (first_of (lines_of text.now)) }
-    ensures after { IfOk result (λ found. found.1.now ≡ after_first (λ b. b == 10) text.now) }
-    ensures shorter { IfOk result (λ found. length found.1.now < length text.now) }
-{
-    let (line, rest) = text_words::split_line(text).ok_or(CertKind::Missing)?;
-    Ok((text_words::words(alloc, line)?, rest))
-}
-
-/// What the next line says at a place, and what follows it.
+/// What the next line says where the reading is this far, and what follows it.
 #[tactic(auto, unfolding(crate::specs::Steps::line_at))]
 fn next_entry<'a>(
     alloc: Global,
-    place: &Place,
+    progress: &Progress,
     text: &'a [u8],
-) -> Result<(Entry, &'a [u8]), LineFault>
-    requires place { IsPlace place.now }
-    ensures gives { Gives (λ found. (entry_in found.0, lines_of found.1.now)) result (line_at place.now (lines_of text.now)) }
+) -> Result<(Entry, &'a [u8]), LineFault<CertKind>>
+    requires progress { IsProgress progress.now }
+    ensures gives { Gives (λ found. (entry_in found.0, lines_of found.1.now)) result
+        (line_at progress.now (lines_of text.now)) }
     ensures after { IfOk result (λ found. found.1.now ≡ after_first (λ b. b == 10) text.now) }
     ensures shorter { IfOk result (λ found. length found.1.now < length text.now) }
 {
-    let (words, rest) = first_words(alloc, text)?;
-    let entry = entry(alloc, place, &words)?;
+    let (words, rest) = first_words(alloc, CertKind::Missing, text)?;
+    let entry = entry(alloc, progress, &words)?;
     Ok((entry, rest))
 }
 
-/// The weight at a place of a list, 0 behind its end.
+/// The weight at an index of a list, 0 behind its end.
 fn weight_at(weights: &[i128], i: usize) -> i128
-    requires { All (λ x. (pos 0 ≤ℤ x) × (x ≤ℤ pos 65536)) weights.now }
-    ensures small { (pos 0 ≤ℤ result) × (result ≤ℤ pos 65536) }
+    requires { All IsLack weights.now }
+    ensures small { IsLack result }
     ensures value { result ≡ slice_index_or weights.now i (pos 0) }
 {
     match weights.get(i) {
@@ -135,93 +193,140 @@ fn weight_at(weights: &[i128], i: usize) -> i128
     }
 }
 
-/// What each place lacks behind a node's `mix` line: the weight of its own action.
-fn lacking_of(observations: u32, weights: &[i128]) -> [i128; MOST_PLACES]
+/// What each pair lacks behind a node's `mix` line: the weight of its own action.
+fn lacking_of(observations: u32, weights: &[i128]) -> [i128; MOST_PAIRS]
     requires some { 1 ≤ observations }
-    requires small { All (λ x. (pos 0 ≤ℤ x) × (x ≤ℤ pos 65536)) weights.now }
+    requires small { All IsLack weights.now }
     ensures value { result ≡ lacking_of observations weights.now }
-    ensures small { All (λ x. (pos 0 ≤ℤ x) × (x ≤ℤ pos 65536)) result }
+    ensures small { All IsLack result }
 {
-    let mut lacking = [0; MOST_PLACES];
-    for i in 0..MOST_PLACES {
+    let mut lacking = [0; MOST_PAIRS];
+    for i in 0..MOST_PAIRS {
         lacking[i] = weight_at(weights, i / observations as usize);
     }
     lacking
 }
 
-/// Takes a weight from what a place lacks.
+/// Takes a weight from what a pair lacks.
 fn take_weight(lacking: &mut [i128], i: usize, weight: i128)
-    requires place { i < length lacking.old }
-    requires small { All (λ x. (pos 0 ≤ℤ x) × (x ≤ℤ pos 65536)) lacking.old }
+    requires index { i < length lacking.old }
+    requires small { All IsLack lacking.old }
     requires some { pos 1 ≤ℤ weight }
     requires fits { weight ≤ℤ slice_index_or lacking.old i (pos 0) }
     ensures value { lacking.new ≡ lacking_less lacking.old i weight }
-    ensures small { All (λ x. (pos 0 ≤ℤ x) × (x ≤ℤ pos 65536)) lacking.new }
+    ensures small { All IsLack lacking.new }
 {
     lacking[i] -= weight;
 }
 
-/// Takes the place behind a line that says this.
-fn advance(place: &mut Place, entry: &Entry)
-    requires place { IsPlace place.old }
-    requires fits { FitsPlace place.old (entry_in entry.now) }
-    ensures after { place.new ≡ place_after place.old (entry_in entry.now) }
-    ensures keeps { IsPlace place.new }
+/// The greatest common divisor of a divisor and one weight more.
+fn divisor_with(divisor: u128, weight: i128) -> u128
+    ensures { result ≡ divisor_within divisor (unsigned_abs weight) divisor }
 {
-    match entry {
-        Entry::Version => place.latest = Latest::Version,
-        Entry::Outcome(_) => place.latest = Latest::Outcome,
-        Entry::Gap(_, _) => place.latest = Latest::Gap,
-        Entry::Lower(_, _) => place.latest = Latest::Lower,
-        Entry::Upper(_, _) => place.latest = Latest::Upper,
-        Entry::Tail(_, _) => place.latest = Latest::Tail,
-        Entry::Sizes(nodes, points) => {
-            place.latest = Latest::Sizes;
-            place.nodes = *nodes;
-            place.points = *points;
-        }
-        Entry::Start(_, _) => place.latest = Latest::Start,
-        Entry::Node(number) => {
-            place.latest = Latest::Node;
-            place.begun = *number + 1;
-        }
-        Entry::Vector(_) => place.latest = Latest::Vector,
-        Entry::Mix(weights) => {
-            place.latest = Latest::Mix;
-            place.lacking = lacking_of(place.limits.observations, weights);
-        }
-        Entry::Next(b) => {
-            place.latest = Latest::Next(b.a, b.o, b.k);
-            let i = (b.a * place.limits.observations + b.o) as usize;
-            take_weight(&mut place.lacking, i, b.weight);
-        }
-        Entry::Point(number) => {
-            place.latest = Latest::Point;
-            place.begun = *number + 1;
-            place.state = 0;
-        }
-        Entry::Belief(parts) => {
-            place.latest = Latest::Belief;
-            place.total = sum(parts);
-        }
-        Entry::Value(_) => place.latest = Latest::Value,
-        Entry::Mixes(state, _) => {
-            place.latest = Latest::Mixes;
-            place.state = *state + 1;
-        }
-        Entry::Split(b) => place.latest = Latest::Split(b.a, b.o, b.k),
-        Entry::End => place.latest = Latest::End,
+    gcd(weight.unsigned_abs(), divisor)
+}
+
+/// Weights with one more.
+fn with_weight(weight: i128, weights: Weights) -> Weights
+    ensures { result ≡ with_weight weight weights }
+{
+    Weights {
+        some: true,
+        many: weights.some,
+        divisor: divisor_with(weights.divisor, weight),
     }
 }
 
-/// The certificate that all lines say from a place on, to the `end` line, how many lines there are, and what
+/// Starts with one more start node of this weight.
+fn with_from(weight: i128, starts: Starts) -> Starts
+    requires sum { IsWithin (pos 0) (pos most_from) starts.sum }
+    requires some { pos 1 ≤ℤ weight }
+    requires fits { (weight +ℤ starts.sum) ≤ℤ pos most_from }
+    ensures value { result ≡ with_from weight starts }
+    ensures sum { IsWithin (pos 0) (pos most_from) result.sum }
+{
+    Starts {
+        sum: weight + starts.sum,
+        nodes: with_weight(weight, starts.nodes),
+        ..starts
+    }
+}
+
+/// The line that says this.
+fn latest_of(entry: &Entry) -> Latest
+    ensures { result ≡ latest_of (entry_in entry.now) }
+{
+    match entry {
+        Entry::Version(_) => Latest::Version,
+        Entry::Outcome(_) => Latest::Outcome,
+        Entry::Gap(_, _) => Latest::Gap,
+        Entry::Lower(_, _) => Latest::Lower,
+        Entry::Upper(_, _) => Latest::Upper,
+        Entry::Tail(_, _) => Latest::Tail,
+        Entry::Sizes(_, _) => Latest::Sizes,
+        Entry::Start(_, _) => Latest::Start,
+        Entry::Multiple(_) => Latest::Multiple,
+        Entry::From(node, _) => Latest::From(*node),
+        Entry::Over(point, _) => Latest::Over(*point),
+        Entry::Node(_) => Latest::Node,
+        Entry::Vector(_) => Latest::Vector,
+        Entry::Mix(_) => Latest::Mix,
+        Entry::Next(b) => Latest::Next(b.a, b.o, b.k),
+        Entry::Point(_) => Latest::Point,
+        Entry::Belief(_) => Latest::Belief,
+        Entry::Value(_) => Latest::Value,
+        Entry::Mixes(_, _) => Latest::Mixes,
+        Entry::Split(b) => Latest::Split(b.a, b.o, b.k),
+        Entry::End => Latest::End,
+    }
+}
+
+/// Goes on behind a line that says this.
+fn advance(progress: &mut Progress, entry: &Entry)
+    requires progress { IsProgress progress.old }
+    requires fits { FitsProgress progress.old (entry_in entry.now) }
+    ensures after { progress.new ≡ progress_after progress.old (entry_in entry.now) }
+    ensures keeps { IsProgress progress.new }
+{
+    progress.latest = latest_of(entry);
+    match entry {
+        Entry::Version(number) => progress.starts.version = *number,
+        Entry::Sizes(nodes, points) => {
+            progress.nodes = *nodes;
+            progress.points = *points;
+        }
+        Entry::From(_, weight) => progress.starts = with_from(*weight, progress.starts),
+        Entry::Over(_, weight) => {
+            progress.starts.points = with_weight(*weight, progress.starts.points);
+        }
+        Entry::Node(number) => progress.begun = *number + 1,
+        Entry::Mix(weights) => {
+            progress.lacking = lacking_of(progress.limits.observations, weights);
+        }
+        Entry::Next(b) => {
+            let i = (b.a * progress.limits.observations + b.o) as usize;
+            take_weight(&mut progress.lacking, i, b.weight);
+        }
+        Entry::Point(number) => {
+            progress.begun = *number + 1;
+            progress.state = 0;
+        }
+        Entry::Belief(parts) => progress.total = sum(parts),
+        Entry::Mixes(state, _) => progress.state = *state + 1,
+        Entry::Outcome(_) | Entry::Gap(_, _) | Entry::Lower(_, _) | Entry::Upper(_, _) => {}
+        Entry::Tail(_, _) | Entry::Start(_, _) | Entry::Multiple(_) | Entry::Vector(_) => {}
+        Entry::Value(_) | Entry::Split(_) | Entry::End => {}
+    }
+}
+
+/// The certificate that all lines say from here on, to the `end` line, how many lines there are, and what
 /// follows them.
 pub fn read_draft(
     alloc: Global,
-    start: Place,
+    start: Progress,
     text: &[u8],
 ) -> Result<(Draft, u32, &[u8]), CertFault>
-    requires place { IsPlace start }
+    requires progress { IsProgress start }
     requires begun { IsUnfinished start }
     requires size { length text.now ≤ 2 ^ 27 }
     ensures found { IfOk result (λ found. IsDraftOf start text.now (draft_data found.0) found.1 found.2.now) }
@@ -229,16 +334,16 @@ pub fn read_draft(
     ensures refused { IfErr result (IsFaultOf start (lines_of text.now)) }
 {
     let mut draft = blank(alloc);
-    let mut place = start;
+    let mut progress = start;
     let mut rest = text;
     let mut line: u32 = 0;
     loop {
-        let (entry, after) = numbered(next_entry(alloc, &place, rest), line + 1)?;
-        advance(&mut place, &entry);
+        let (entry, after) = numbered(next_entry(alloc, &progress, rest), line + 1)?;
+        advance(&mut progress, &entry);
         take(alloc, &start.limits, &mut draft, entry)?;
         rest = after;
         line += 1;
-        if let Latest::End = place.latest {
+        if let Latest::End = progress.latest {
             return Ok((draft, line, rest));
         }
     }

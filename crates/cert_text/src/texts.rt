@@ -9,11 +9,11 @@ ghost use Rattle.controller.specs.Certificates.{CertificateFits};
 ghost use Rattle.point_set.specs.Members.{point_data};
 ghost use Rattle.cert_text.specs.Draft.{AreFit, draft_data, spot_data};
 ghost use Rattle.cert_text.specs.declared.fault.CertFault.TheVariants as certs;
-ghost use Rattle.cert_text.specs.View.{AreLimits, IsPlace};
+ghost use Rattle.cert_text.specs.View.{AreLimits, IsProgress};
 
 use crate::draft::{Draft, Spot};
 use crate::fault::{CertFault, CertKind};
-use crate::place::{Latest, Limits, MOST_PLACES, Place};
+use crate::progress::{Latest, Limits, MOST_PAIRS, NO_WEIGHTS, Progress, Starts};
 use crate::reader::read_draft;
 use alpha_set::{Node, NodeSet};
 use belief::{Belief, Mixes};
@@ -38,19 +38,25 @@ fn limits(game: &Game) -> Limits
     }
 }
 
-/// The place before the first line.
-fn start(game: &Game) -> Place
+/// Before the first line.
+fn start(game: &Game) -> Progress
     ensures value { result ≡ start_of game.now }
-    ensures kept { IsPlace result }
+    ensures kept { IsProgress result }
 {
-    Place {
+    Progress {
         limits: limits(game),
         latest: Latest::Nothing,
         nodes: 0,
         points: 0,
+        starts: Starts {
+            version: 0,
+            sum: 0,
+            nodes: NO_WEIGHTS,
+            points: NO_WEIGHTS,
+        },
         begun: 0,
         state: 0,
-        lacking: [0; MOST_PLACES],
+        lacking: [0; MOST_PAIRS],
         total: 0,
     }
 }
@@ -149,8 +155,9 @@ fn finish(alloc: Global, game: &Game, draft: Draft) -> Result<Certificate, CertF
         outcome: draft.outcome,
         nodes,
         points,
-        start_node: draft.start_node,
-        start_point: draft.start_point,
+        start_nodes: draft.start_nodes,
+        start_points: draft.start_points,
+        multiple: draft.multiple,
     })
 }
 

@@ -8,14 +8,15 @@ use borrow.Author.Differences.{up}
 use Rattle.scaled_num.specs.Sums.{below, total, sum_of}
 use Rattle.scaled_num.proofs.Products.{sums}
 use Rattle.scaled_num.proofs.Sums.{total-below, total-places, total-pos, total-same, each-at, each-map, sum_by-map}
-use Rattle.alpha_set.specs.Nodes.{NodeData, NodeFits, no_node, node_of, step_of, steps_at}
+use Rattle.alpha_set.specs.Nodes.{NodeData, NodeFits, no_node, node_of, steps_at}
 use Rattle.belief.specs.Mixes.{MixesData, mix_at, AreMixes}
 use Rattle.controller.specs.Certificates.{CertificateData, CertificateFits}
 use Rattle.controller.specs.Members.{NodeKeeps, NodesKeep, PointKeeps, PointsKeep, SharesNameMembers, StepsNameMembers, belief_total}
-use Rattle.game_model.specs.Branches.{IsBranch, branches_at, mix_total}
+use Rattle.game_model.specs.Branches.{IsBranch, branches_at, continuation_of, mix_total}
 use Rattle.game_model.specs.Game.{GameData, IsWithin, numbers, span}
+use Rattle.game_model.proofs.Continuations.{continuations-are}
 use Rattle.game_model.proofs.Pay.{each-from}
-use Rattle.point_set.specs.Points.{PointData, PointFits, most_share, no_point, point_of, share_of, shares_at}
+use Rattle.point_set.specs.Points.{PointData, PointFits, most_share, no_point, point_of, shares_at}
 
 -- a number that is not negative is its magnitude
 pub same_abs : (x : ℤ) → pos 0 ≤ℤ x → pos (unsigned_abs x) ≡ x
@@ -39,16 +40,6 @@ each-filter P p (x ∷ xs) h = by (p x) (each-filter P p xs h.1)
     by true k = (h.0, k)
     by false k = k
 
--- a filter of a mapped list
-pub filter-map : {X Y : Type 0} (f : X → Y) (p : Y → Bool) (xs : List X) → filter p (map f xs) ≡ map f (filter (λ x. p (f x)) xs)
-filter-map f p [] = refl
-filter-map {X} {Y} f p (x ∷ xs) = by (p (f x)) (filter-map f p xs)
-  where
-    by : (b : Bool) → filter p (map f xs) ≡ map f (filter (λ x. p (f x)) xs) →
-        cond b (f x ∷ filter p (map f xs)) (filter p (map f xs)) ≡ map f (cond b (x ∷ filter (λ x. p (f x)) xs) (filter (λ x. p (f x)) xs))
-    by true k = ap (λ (ys : List Y). f x ∷ ys) k
-    by false k = k
-
 -- the sum of a list of weights, by places
 sum-places : (xs : List ℤ) (n : ℕ) → length xs ≡ n → AllByRecursion (λ x. pos 0 ≤ℤ x) xs →
     pos (sum_by (λ i. unsigned_abs (slice_index_or xs i (pos 0))) (below n)) ≡ sum_of xs
@@ -58,9 +49,6 @@ sum-places xs n l h =
     ∙ total-below (length xs) _ (λ i. get_or xs i (pos 0)) (λ i li. same_abs _ (each-at (λ x. pos 0 ≤ℤ x) (pos 0) xs i h li))
     ∙ total-places (λ x. x) (pos 0) xs)
 
-pub steps-are : (node : NodeData) (a o : ℕ) → steps_at (node_of node) a o ≡ map step_of (branches_at node.next a o)
-steps-are node a o = filter-map step_of _ node.next
-
 pub node-keeps : (g : GameData) (count : ℕ) (node : NodeData) → NodeFits g count node → NodeKeeps (numbers g) mix_total (span g) count (node_of node)
 node-keeps g count node fits =
     let each = λ (a o : ℕ). each-filter (IsBranch (numbers g) count (pos mix_total)) (λ b. (b.own == a) && (b.seen == o)) node.next fits.next.each in
@@ -68,20 +56,17 @@ node-keeps g count node fits =
       at_most = λ s ls. (each-at _ (pos 0) node.vector s fits.entries (subst (λ (n : ℕ). s < n) (sym fits.long) ls)).1;
       mix_sums = pos_same _ _ (sum-places node.mix g.shape.own_actions fits.mix.long (each-from _ _ node.mix (λ x h. h.0) fits.mix.each) ∙ fits.mix.sums);
       steps_sum = λ a o la lo. pos_same _ _
-          (ap (λ steps. pos (sum_by (λ step. step.weight) steps)) (steps-are node a o)
-          ∙ ap pos (sum_by-map (λ step. step.weight) step_of (branches_at node.next a o))
+          (ap (λ steps. pos (sum_by (λ step. step.weight) steps)) (continuations-are node.next a o)
+          ∙ ap pos (sum_by-map (λ step. step.weight) continuation_of (branches_at node.next a o))
           ∙ sum-abs (λ b. b.weight) (branches_at node.next a o) (each-from _ _ _ (λ b k. positive b.weight (pos mix_total) k.weight) (each a o))
           ∙ fits.sums a o la lo
           ∙ sym (same_abs _ (each-at (IsWithin (pos 0) (pos mix_total)) (pos 0) node.mix a fits.mix.each (subst (λ (n : ℕ). a < n) (sym fits.mix.long) la)).0));
-      named = λ a o la lo. subst (AllByRecursion (λ step. step.node < count)) (sym (steps-are node a o))
-          (each-map _ step_of (branches_at node.next a o) (each-from _ _ _ (λ b k. k.member) (each a o)));
+      named = λ a o la lo. subst (AllByRecursion (λ step. step.member < count)) (sym (continuations-are node.next a o))
+          (each-map _ continuation_of (branches_at node.next a o) (each-from _ _ _ (λ b k. k.member) (each a o)));
     }
   where
     positive : (x most : ℤ) → IsWithin (pos 1) most x → pos 0 ≤ℤ x
     positive x most h = omega (arith, ints, h.0)
-
-pub shares-are : (point : PointData) (a o : ℕ) → shares_at (point_of point) a o ≡ map share_of (branches_at point.splits a o)
-shares-are point a o = filter-map share_of _ point.splits
 
 -- the total of a belief that is not negative
 pub belief-total : (g : GameData) (count : ℕ) (point : PointData) → PointFits g count point → pos (belief_total (numbers g) (point_of point)) ≡ sum_of point.belief
@@ -110,8 +95,8 @@ point-keeps g count point fits =
     record {
       at_least = least point.value (pos (span g)) (sum_of point.belief) (pos (span g * belief_total (numbers g) (point_of point))) (ap (λ z. pos (span g) *ℤ z) total_is) fits.value.0;
       mixes_sum = λ s ls. pos_same _ _ (mix_sum point.mixes fits.mixes g.shape.informed_actions s fits.actions (subst (λ (n : ℕ). s < n) (sym fits.states) ls));
-      named = λ a o la lo. subst (AllByRecursion (λ share. share.point < count)) (sym (shares-are point a o))
-          (each-map _ share_of (branches_at point.splits a o) (each-from _ _ _ (λ b k. k.member) (each a o)));
+      named = λ a o la lo. subst (AllByRecursion (λ share. share.member < count)) (sym (continuations-are point.splits a o))
+          (each-map _ continuation_of (branches_at point.splits a o) (each-from _ _ _ (λ b k. k.member) (each a o)));
     }
   where
     least : (y v b k : ℤ) → k ≡ v *ℤ b → (neg_ℤ (v *ℤ b)) ≤ℤ y → pos 0 ≤ℤ (y +ℤ k)
@@ -129,10 +114,10 @@ pub steps-name : (g : GameData) (k : CertificateData) → CertificateFits g k �
 steps-name g k fits i li =
     let node : NodeData = slice_index_or k.nodes i no_node in
     let node_fits = each-at (NodeFits g (length k.nodes)) no_node k.nodes i fits.nodes li in
-    each-map _ step_of node.next (each-from _ _ node.next (λ b h. (h.own, h.seen, h.member)) node_fits.next.each)
+    each-map _ continuation_of node.next (each-from _ _ node.next (λ b h. (h.own, h.seen, h.member)) node_fits.next.each)
 
 pub shares-name : (g : GameData) (k : CertificateData) → CertificateFits g k → SharesNameMembers g k
 shares-name g k fits j lj =
     let point : PointData = slice_index_or k.points j no_point in
     let point_fits = each-at (PointFits g (length k.points)) no_point k.points j fits.points lj in
-    each-map _ share_of point.splits (each-from _ _ point.splits (λ b h. (h.own, h.seen, h.member)) point_fits.splits.each)
+    each-map _ continuation_of point.splits (each-from _ _ point.splits (λ b h. (h.own, h.seen, h.member)) point_fits.splits.each)

@@ -1,11 +1,13 @@
 -- A certificate: when it fits a game, when it stands, and the first place where it does not.
 use Rattle.game_model.specs.Limits.{most_members}
-use Rattle.std.specs.Prelude.{ℕ, ℤ, pos, ◌-ℤ◌, ◌*ℤ◌, ◌≤ℤ◌, List, [], ◌∷◌, ◌++◌, map, flat_map, cond, length, ◌≡◌, ◌<◌, ◌≤◌, ◌^◌, ◌*◌, ◌==◌, slice_index_or, sum_by, unsigned_abs}
+use Rattle.std.specs.Prelude.{ℕ, ℤ, pos, ◌-ℤ◌, ◌*ℤ◌, ◌≤ℤ◌, List, [], ◌∷◌, ◌++◌, map, flat_map, cond, length, ◌≡◌, ◌<◌, ◌≤◌, ◌^◌, ◌*◌, ◌==◌, sum_by, unsigned_abs}
 use Rattle.std.specs.List.{AllByRecursion}
+use Rattle.scaled_num.specs.First.{FirstIn}
 use Rattle.scaled_num.specs.Sums.{below, total}
 use Rattle.alpha_set.specs.Nodes.{NodeData, NodeFits, NodeHolds, nodes_of}
 use Rattle.game_model.specs.Game.{GameData, IsWithin, first_at, numbers, span, unit}
-use Rattle.point_set.specs.Points.{PointData, PointFits, SplitHolds, ValueHolds, no_point, points_of}
+use Rattle.point_set.specs.Points.{PointData, PointFits, SplitHolds, ValueHolds, points_of}
+use Rattle.controller.specs.Starts.{MakesUpMultiple, StartsFit, weighted, weights_sum}
 
 pub record FractionData : Type 0 where
   pub num : ℤ
@@ -17,6 +19,7 @@ pub data Ending : Type 0 where
   Trials : Ending
   Full : Ending
 
+-- The starts are numbers of members with their weights. The start points make up the multiple of the first belief.
 pub record CertificateData : Type 0 where
   pub lower : FractionData
   pub upper : FractionData
@@ -25,8 +28,9 @@ pub record CertificateData : Type 0 where
   pub outcome : Ending
   pub nodes : List NodeData
   pub points : List PointData
-  pub start_node : ℕ
-  pub start_point : ℕ
+  pub start_nodes : List (ℕ × ℤ)
+  pub start_points : List (ℕ × ℤ)
+  pub multiple : ℤ
 
 -- the greatest numerator of a gap, and the greatest denominator
 abbrev pub most_gap : ℕ
@@ -54,8 +58,7 @@ pub record CertificateFits (g : GameData) (k : CertificateData) : Type 0 where
   pub most_points : length k.points ≤ most_members
   pub nodes : AllByRecursion (NodeFits g (length k.nodes)) k.nodes
   pub points : AllByRecursion (PointFits g (length k.points)) k.points
-  pub start_node : k.start_node < length k.nodes
-  pub start_point : k.start_point < length k.points
+  pub starts : StartsFit (length k.nodes) (length k.points) k.start_nodes k.start_points k.multiple
   pub gap : IsGap k.gap
   pub short : IsShort k.lower × IsShort k.upper × IsShort k.tail
 
@@ -63,9 +66,23 @@ pub record CertificateFits (g : GameData) (k : CertificateData) : Type 0 where
 abbrev pub first_total : GameData → ℕ
 first_total g = sum_by (first_at g) (below g.shape.states)
 
--- the product of the start node's vector with the first belief
-abbrev pub start_product : GameData → CertificateData → ℤ
-start_product g k = total (λ s. pos (first_at g s) *ℤ (nodes_of k.nodes k.start_node).vector s) (below g.shape.states)
+-- the product of a node's vector with the first belief
+abbrev pub node_product : GameData → List NodeData → ℕ → ℤ
+node_product g nodes i = total (λ s. pos (first_at g s) *ℤ (nodes_of nodes i).vector s) (below g.shape.states)
+
+-- the products of the start nodes, weighted, and the denominator of the lower bound
+abbrev pub lower_sum : GameData → CertificateData → ℤ
+lower_sum g k = weighted k.start_nodes (node_product g k.nodes)
+
+abbrev pub lower_scale : GameData → CertificateData → ℤ
+lower_scale g k = weights_sum k.start_nodes *ℤ pos (first_total g * unit)
+
+-- the values of the start points, weighted, and the denominator of the upper bound
+abbrev pub upper_sum : CertificateData → ℤ
+upper_sum k = weighted k.start_points (λ j. (points_of k.points j).value)
+
+abbrev pub upper_scale : GameData → CertificateData → ℤ
+upper_scale g k = k.multiple *ℤ pos (first_total g * unit)
 
 abbrev pub IsFraction : FractionData → ℤ → ℤ → Type 0
 IsFraction f num den = (f.num ≡ num) × (f.den ≡ den)
@@ -97,10 +114,10 @@ Holds g k (NodeAt i s c) = NodeHolds (numbers g) (nodes_of k.nodes) (nodes_of k.
 Holds g k (CornerAt j) = (s : ℕ) → s < g.shape.states → (points_of k.points j).belief s ≡ cond (s == j) 1 0
 Holds g k (SplitAt j a o s) = SplitHolds (numbers g) (points_of k.points) (points_of k.points j) a o s
 Holds g k (ValueAt j a) = ValueHolds (numbers g) (points_of k.points) (points_of k.points j) a
-Holds g k StartAt = (slice_index_or k.points k.start_point no_point).belief ≡ g.first
+Holds g k StartAt = MakesUpMultiple k.points k.start_points k.multiple g.first g.shape.states
 Holds g k BoundAt =
-    IsFraction k.lower (start_product g k) (pos (first_total g * unit))
-    × IsFraction k.upper ((points_of k.points k.start_point).value) (pos (first_total g * unit))
+    IsFraction k.lower (lower_sum g k) (lower_scale g k)
+    × IsFraction k.upper (upper_sum k) (upper_scale g k)
     × IsFraction k.tail (pos (span g)) (pos unit)
 Holds g k OutcomeAt = OutcomeHolds k k.outcome
 
@@ -136,9 +153,5 @@ pub record CertificateStands (g : GameData) (k : CertificateData) : Type 0 where
   pub holds : AllByRecursion (Holds g k) (places g k)
 
 -- it fails first at this place
-pub record FailsFirst (g : GameData) (k : CertificateData) (place : Place) : Type 0 where
-  pub before : List Place
-  pub after : List Place
-  pub order : places g k ≡ before ++ (place ∷ after)
-  pub holds : AllByRecursion (Holds g k) before
-  pub fails : Holds g k place → ⊥
+abbrev pub FailsFirst : GameData → CertificateData → Place → Type 0
+FailsFirst g k place = FirstIn (Holds g k) (places g k) place

@@ -1,3 +1,5 @@
 pub mod Certificates
 pub mod Data
 pub mod Members
+pub mod Starts
+pub mod Sums

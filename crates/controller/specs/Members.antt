@@ -19,14 +19,14 @@ pub record NodeKeeps (g : Numbers) (mix_total span count : ℕ) (node : Node) : 
   pub at_most : (s : ℕ) → s < g.states → node.vector s ≤ℤ pos span
   pub mix_sums : sum_by node.mix (below g.own_actions) ≡ mix_total
   pub steps_sum : (a o : ℕ) → a < g.own_actions → o < g.observations → sum_by (λ step. step.weight) (steps_at node a o) ≡ node.mix a
-  pub named : (a o : ℕ) → a < g.own_actions → o < g.observations → AllByRecursion (λ step. step.node < count) (steps_at node a o)
+  pub named : (a o : ℕ) → a < g.own_actions → o < g.observations → AllByRecursion (λ step. step.member < count) (steps_at node a o)
 
 -- A point keeps to a game and so many points: its value is not below the span times the sum of its belief, less than 0,
 -- the mixes of each state sum to the total, and its shares name points of the set.
 pub record PointKeeps (g : Numbers) (mix_total span count : ℕ) (point : Point) : Type 0 where
   pub at_least : pos 0 ≤ℤ (point.value +ℤ pos (span * belief_total g point))
   pub mixes_sum : (s : ℕ) → s < g.states → sum_by (point.mixes s) (below g.informed_actions) ≡ mix_total
-  pub named : (a o : ℕ) → a < g.own_actions → o < g.observations → AllByRecursion (λ share. share.point < count) (shares_at point a o)
+  pub named : (a o : ℕ) → a < g.own_actions → o < g.observations → AllByRecursion (λ share. share.member < count) (shares_at point a o)
 
 -- ---- of a certificate that fits
 abbrev pub NodesKeep : GameData → CertificateData → Type 0
@@ -39,13 +39,13 @@ PointsKeep g k = (j : ℕ) → j < length k.points → PointKeeps (numbers g) mi
 abbrev pub StepsNameMembers : GameData → CertificateData → Type 0
 StepsNameMembers g k =
     (i : ℕ) → i < length k.nodes →
-    AllByRecursion (λ step. (step.own < g.shape.own_actions) × (step.seen < g.shape.observations) × (step.node < length k.nodes)) (nodes_of k.nodes i).next
+    AllByRecursion (λ step. (step.own < g.shape.own_actions) × (step.seen < g.shape.observations) × (step.member < length k.nodes)) (nodes_of k.nodes i).next
 
 -- every share names an own action, an observation and a point
 abbrev pub SharesNameMembers : GameData → CertificateData → Type 0
 SharesNameMembers g k =
     (j : ℕ) → j < length k.points →
-    AllByRecursion (λ share. (share.own < g.shape.own_actions) × (share.seen < g.shape.observations) × (share.point < length k.points)) (points_of k.points j).splits
+    AllByRecursion (λ share. (share.own < g.shape.own_actions) × (share.seen < g.shape.observations) × (share.member < length k.points)) (points_of k.points j).splits
 
 -- what the members of every certificate that fits have
 pub record MembersKeep : Type 0 where

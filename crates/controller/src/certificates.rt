@@ -7,6 +7,7 @@ ghost use Rattle.std.specs.Prelude.{◌↔◌};
 
 use crate::nodes::nodes_fit;
 use crate::points::points_fit;
+use crate::starts::starts_fit;
 use alpha_set::NodeSet;
 use game_model::Game;
 use point_set::PointSet;
@@ -42,10 +43,12 @@ pub struct Certificate {
     pub nodes: NodeSet,
     /// The points, by number; those below the number of states are the corners.
     pub points: PointSet,
-    /// The node at which the controller starts.
-    pub start_node: u32,
-    /// The point at which the splitting strategy starts.
-    pub start_point: u32,
+    /// The nodes among which the controller draws its start, by rising number, each with its weight.
+    pub start_nodes: Vec<(u32, i128)>,
+    /// The points whose beliefs, by these weights, make up a multiple of the first belief, by rising number.
+    pub start_points: Vec<(u32, i128)>,
+    /// The multiple of the first belief that the start points make up.
+    pub multiple: i128,
 }
 
 impl Model for Certificate {
@@ -62,8 +65,9 @@ impl Model for Certificate {
       outcome = ending_of k.outcome;
       nodes = k.nodes.members;
       points = k.points.members;
-      start_node = k.start_node;
-      start_point = k.start_point;
+      start_nodes = k.start_nodes.items;
+      start_points = k.start_points.items;
+      multiple = k.multiple;
     } };
 }
 
@@ -78,15 +82,21 @@ const SHORT_END: i128 = 1_000_000_000_000_000_000_000_000_000_000_000_000;
 
 impl Certificate {
     /// Whether the certificate fits a game: every node and point fits and names members, there is a node and a point
-    /// for each state, the starts are members, the gap is within its limits and no fraction has more than 36 digits.
-    /// It takes no memory.
+    /// for each state, the gap is within its limits and no fraction has more than 36 digits. The starts rise, name
+    /// members and have coprime weights, those of nodes 1 to 65,536 in all and those of points 1 to 2^36 each; the
+    /// multiple is 1 to 65,536, and 1 where there is one start node and one start point. It takes no memory.
     pub fn fits(&self, game: &Game) -> bool
         ensures { IsTrue result ↔ CertificateFits game.now self.now }
     {
         1 <= self.nodes.len()
             && game.states() <= self.points.len()
-            && self.start_node < self.nodes.len()
-            && self.start_point < self.points.len()
+            && starts_fit(
+                self.nodes.len(),
+                self.points.len(),
+                &self.start_nodes,
+                &self.start_points,
+                self.multiple,
+            )
             && is_gap(&self.gap)
             && is_short(&self.lower)
             && is_short(&self.upper)

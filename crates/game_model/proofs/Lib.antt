@@ -19,3 +19,5 @@ pub mod Least
 pub mod FirstProduct
 pub mod Affine
 pub mod Mixed
+pub mod Continuations
+pub mod SeedsExist

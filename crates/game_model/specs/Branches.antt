@@ -1,5 +1,5 @@
 -- Branches of a member of a set: after an own action and an observation, go on with a member, by a weight.
-use Rattle.std.specs.Prelude.{ℕ, ℤ, pos, List, [], ◌∷◌, filter, ◌≡◌, ◌<◌, ◌⊎◌, ◌==◌, ◌&&◌}
+use Rattle.std.specs.Prelude.{ℕ, ℤ, pos, unsigned_abs, List, [], ◌∷◌, filter, ◌≡◌, ◌<◌, ◌⊎◌, ◌==◌, ◌&&◌}
 use Rattle.std.specs.List.{AllByRecursion}
 use Rattle.game_model.specs.Game.{IsWithin}
 use Rattle.game_model.specs.Numbers.{Numbers}
@@ -43,3 +43,17 @@ pub record IsBranch (g : Numbers) (members : ℕ) (most : ℤ) (b : Branch) : Ty
 pub record AreBranches (g : Numbers) (members : ℕ) (most : ℤ) (branches : List Branch) : Type 0 where
   pub rising : AreRising branches
   pub each : AllByRecursion (IsBranch g members most) branches
+
+-- how a member goes on, as the rules and the plans take it: a branch with its weight as a natural number
+pub record Continuation : Type 0 where
+  pub own : ℕ
+  pub seen : ℕ
+  pub member : ℕ
+  pub weight : ℕ
+
+abbrev pub continuation_of : Branch → Continuation
+continuation_of b = record { own = b.own; seen = b.seen; member = b.member; weight = unsigned_abs b.weight }
+
+-- the continuations after an own action and an observation
+abbrev pub continuations_at : List Continuation → ℕ → ℕ → List Continuation
+continuations_at continuations a o = filter (λ c. (c.own == a) && (c.seen == o)) continuations

@@ -1,7 +1,7 @@
 -- The seed vectors, and what always playing one action earns.
 use Rattle.std.specs.Prelude.{ℕ, zero, suc, ◌*◌, ◌^◌, ◌≡◌, ◌<◌, ◌≤◌, ℤ, pos, neg_ℤ, ◌+ℤ◌, ◌-ℤ◌, ◌*ℤ◌, ◌≤ℤ◌, ◌<ℤ◌, ◌-◌, unsigned_abs, sum_by}
 use Rattle.scaled_num.specs.Sums.{below}
-use Rattle.game_model.specs.Game.{unit}
+use Rattle.game_model.specs.Game.{GameData, IsGame, numbers, span, unit}
 use Rattle.game_model.specs.Numbers.{Numbers, over_row, RowsAreFull, product}
 use Rattle.game_model.specs.Plan.{InformedPlan, IsFamily}
 use Rattle.game_model.specs.Play.{family_pay, always}
@@ -50,6 +50,10 @@ pub record KeepsSpan (g : Numbers) (span : ℕ) : Type 0 where
   pub discount : g.discount_over < g.discount_under
   pub informed : 1 ≤ g.informed_actions
   pub rewards : IsSpanOf g span
+
+-- of an accepted game every action has a vector after each number of rounds
+abbrev pub SeedsExist : Type 0
+SeedsExist = (g : GameData) → IsGame g → (a n : ℕ) → (vector : ℕ → ℤ) × IsSeedAfter (numbers g) (span g) a n vector
 
 -- an action has one seed vector, as far as the states go
 abbrev pub SeedsAreOne : Type 0

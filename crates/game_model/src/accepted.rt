@@ -171,7 +171,8 @@ fn weighted(weights: &[i128], vector: &[i128]) -> i128
     requires few { length weights.now ≤ most_states }
     requires weights { AllByRecursion (IsWithin (pos 0) (pos most_belief)) weights.now }
     requires entries { AllByRecursion (λ x. unsigned_abs x ≤ 2 ^ 70) vector.now }
-    ensures { result ≡ total (λ s. slice_index_or weights.now s (pos 0) *ℤ slice_index_or vector.now s (pos 0)) (below (length weights.now)) }
+    ensures { result ≡ total (λ s. slice_index_or weights.now s (pos 0) *ℤ slice_index_or vector.now s (pos 0))
+        (below (length weights.now)) }
 {
     let mut sum = 0;
     for s in 0..weights.len() {

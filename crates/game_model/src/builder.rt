@@ -1,7 +1,7 @@
 //! The builder of games, which takes rewards and rows one by one and refuses what breaks a limit.
 
 ghost use Rattle.game_model.specs.Build.{HasRoom, HasWeightLeft, IsBegun, IsGameFront, IsLastRowFull, IsMultiple, IsNext, landing_of, last_row, with_landing, with_step};
-ghost use Rattle.game_model.specs.Game.{IsBelief, IsLanding, IsNarrow, IsRewardInRange, IsShape, row_sum, triples};
+ghost use Rattle.game_model.specs.Game.{IsBelief, IsLanding, IsNarrow, IsRewardInRange, IsShape, triples};
 ghost use Rattle.std.specs.Bool.{IsTrue};
 ghost use Rattle.std.specs.Prelude.{IfOk, IsErrOf, OnErr, OnOk, [], pos, ◌↔◌, ◌⊎◌, ◌≡◌, ◌≤ℤ◌};
 
@@ -74,7 +74,8 @@ impl GameBuilder {
     pub fn new(alloc: Global, shape: Shape, first: &[i128]) -> Result<GameBuilder, GameFault>
         ensures range { IsErrOf result GameFault.Range ↔ ¬ (IsShape shape) }
         ensures belief { IsErrOf result GameFault.Belief ↔ (IsShape shape × ¬ (IsBelief shape.states first.now)) }
-        ensures others { (fault : GameFault) → IsErrOf result fault → (fault ≡ GameFault.Range) ⊎ (fault ≡ GameFault.Belief) ⊎ (fault ≡ GameFault.OutOfMemory) }
+        ensures others { (fault : GameFault) → IsErrOf result fault →
+            (fault ≡ GameFault.Range) ⊎ (fault ≡ GameFault.Belief) ⊎ (fault ≡ GameFault.OutOfMemory) }
         ensures shaped { IfOk result (λ builder. builder.shape ≡ shape) }
         ensures divided { IfOk result (λ builder. IsMultiple first.now builder.first) }
         ensures empty { IfOk result (λ builder. (builder.rewards ≡ []) × (builder.rows ≡ [])) }
@@ -107,9 +108,14 @@ impl GameBuilder {
     pub fn step(&mut self, reward: i128) -> Result<(), GameFault>
         ensures extra { IsErrOf result GameFault.Extra ↔ ¬ (HasRoom self.old) }
         ensures range { IsErrOf result GameFault.Range ↔ (HasRoom self.old × ¬ (IsRewardInRange reward)) }
-        ensures total { IsErrOf result GameFault.Total ↔ (HasRoom self.old × IsRewardInRange reward × ¬ (IsLastRowFull self.old)) }
-        ensures wide { IsErrOf result GameFault.Wide ↔ (HasRoom self.old × IsRewardInRange reward × IsLastRowFull self.old × ¬ (IsNarrow self.old.shape reward)) }
-        ensures others { (fault : GameFault) → IsErrOf result fault → (fault ≡ GameFault.Extra) ⊎ (fault ≡ GameFault.Range) ⊎ (fault ≡ GameFault.Total) ⊎ (fault ≡ GameFault.Wide) ⊎ (fault ≡ GameFault.OutOfMemory) }
+        ensures total { IsErrOf result GameFault.Total
+            ↔ (HasRoom self.old × IsRewardInRange reward × ¬ (IsLastRowFull self.old)) }
+        ensures wide { IsErrOf result GameFault.Wide
+            ↔ (HasRoom self.old × IsRewardInRange reward × IsLastRowFull self.old
+            × ¬ (IsNarrow self.old.shape reward)) }
+        ensures others { (fault : GameFault) → IsErrOf result fault →
+            (fault ≡ GameFault.Extra) ⊎ (fault ≡ GameFault.Range) ⊎ (fault ≡ GameFault.Total)
+            ⊎ (fault ≡ GameFault.Wide) ⊎ (fault ≡ GameFault.OutOfMemory) }
         ensures begun { OnOk result (self.new ≡ with_step self.old reward) }
         ensures unchanged { OnErr result (self.new ≡ self.old) }
         ensures front { IsGameFront self.new }
@@ -133,10 +139,17 @@ impl GameBuilder {
     /// as it was.
     pub fn landing(&mut self, seen: u32, to: u32, weight: i128) -> Result<(), GameFault>
         ensures missing { IsErrOf result GameFault.Missing ↔ ¬ (IsBegun self.old) }
-        ensures range { IsErrOf result GameFault.Range ↔ (IsBegun self.old × ¬ (IsLanding self.old.shape (landing_of seen to weight))) }
-        ensures order { IsErrOf result GameFault.Order ↔ (IsBegun self.old × IsLanding self.old.shape (landing_of seen to weight) × ¬ (IsNext (last_row self.old) (landing_of seen to weight))) }
-        ensures total { IsErrOf result GameFault.Total ↔ (IsBegun self.old × IsLanding self.old.shape (landing_of seen to weight) × IsNext (last_row self.old) (landing_of seen to weight) × ¬ (HasWeightLeft self.old weight)) }
-        ensures others { (fault : GameFault) → IsErrOf result fault → (fault ≡ GameFault.Missing) ⊎ (fault ≡ GameFault.Range) ⊎ (fault ≡ GameFault.Order) ⊎ (fault ≡ GameFault.Total) ⊎ (fault ≡ GameFault.OutOfMemory) }
+        ensures range { IsErrOf result GameFault.Range
+            ↔ (IsBegun self.old × ¬ (IsLanding self.old.shape (landing_of seen to weight))) }
+        ensures order { IsErrOf result GameFault.Order
+            ↔ (IsBegun self.old × IsLanding self.old.shape (landing_of seen to weight)
+            × ¬ (IsNext (last_row self.old) (landing_of seen to weight))) }
+        ensures total { IsErrOf result GameFault.Total
+            ↔ (IsBegun self.old × IsLanding self.old.shape (landing_of seen to weight)
+            × IsNext (last_row self.old) (landing_of seen to weight) × ¬ (HasWeightLeft self.old weight)) }
+        ensures others { (fault : GameFault) → IsErrOf result fault →
+            (fault ≡ GameFault.Missing) ⊎ (fault ≡ GameFault.Range) ⊎ (fault ≡ GameFault.Order)
+            ⊎ (fault ≡ GameFault.Total) ⊎ (fault ≡ GameFault.OutOfMemory) }
         ensures added { OnOk result (self.new ≡ with_landing self.old (landing_of seen to weight)) }
         ensures unchanged { OnErr result (self.new ≡ self.old) }
         ensures front { IsGameFront self.new }
@@ -160,7 +173,8 @@ impl GameBuilder {
     pub fn finish(self) -> Result<Game, GameFault>
         ensures missing { IsErrOf result GameFault.Missing ↔ HasRoom self }
         ensures total { IsErrOf result GameFault.Total ↔ (¬ (HasRoom self) × ¬ (IsLastRowFull self)) }
-        ensures others { (fault : GameFault) → IsErrOf result fault → (fault ≡ GameFault.Missing) ⊎ (fault ≡ GameFault.Total) }
+        ensures others { (fault : GameFault) → IsErrOf result fault →
+            (fault ≡ GameFault.Missing) ⊎ (fault ≡ GameFault.Total) }
         ensures built { IfOk result (λ game. game ≡ self) }
     {
         if self.has_room() {
@@ -222,11 +236,17 @@ impl GameBuilder {
     fn admit_step(&self, reward: i128) -> Result<(), GameFault>
         ensures extra { IsErrOf result GameFault.Extra ↔ ¬ (HasRoom self.now) }
         ensures range { IsErrOf result GameFault.Range ↔ (HasRoom self.now × ¬ (IsRewardInRange reward)) }
-        ensures total { IsErrOf result GameFault.Total ↔ (HasRoom self.now × IsRewardInRange reward × ¬ (IsLastRowFull self.now)) }
-        ensures wide { IsErrOf result GameFault.Wide ↔ (HasRoom self.now × IsRewardInRange reward × IsLastRowFull self.now × ¬ (IsNarrow self.now.shape reward)) }
-        ensures others { (fault : GameFault) → IsErrOf result fault → (fault ≡ GameFault.Extra) ⊎ (fault ≡ GameFault.Range) ⊎ (fault ≡ GameFault.Total) ⊎ (fault ≡ GameFault.Wide) }
+        ensures total { IsErrOf result GameFault.Total
+            ↔ (HasRoom self.now × IsRewardInRange reward × ¬ (IsLastRowFull self.now)) }
+        ensures wide { IsErrOf result GameFault.Wide
+            ↔ (HasRoom self.now × IsRewardInRange reward × IsLastRowFull self.now
+            × ¬ (IsNarrow self.now.shape reward)) }
+        ensures others { (fault : GameFault) → IsErrOf result fault →
+            (fault ≡ GameFault.Extra) ⊎ (fault ≡ GameFault.Range) ⊎ (fault ≡ GameFault.Total)
+            ⊎ (fault ≡ GameFault.Wide) }
         ensures front { IsGameFront self.now }
-        ensures admitted { OnOk result (HasRoom self.now × IsRewardInRange reward × IsLastRowFull self.now × IsNarrow self.now.shape reward) }
+        ensures admitted { OnOk result (HasRoom self.now × IsRewardInRange reward × IsLastRowFull self.now
+            × IsNarrow self.now.shape reward) }
     {
         if !self.has_room() {
             return Err(GameFault::Extra);
@@ -247,11 +267,18 @@ impl GameBuilder {
     fn admit_landing(&self, landing: &Landing) -> Result<(), GameFault>
         ensures missing { IsErrOf result GameFault.Missing ↔ ¬ (IsBegun self.now) }
         ensures range { IsErrOf result GameFault.Range ↔ (IsBegun self.now × ¬ (IsLanding self.now.shape landing.now)) }
-        ensures order { IsErrOf result GameFault.Order ↔ (IsBegun self.now × IsLanding self.now.shape landing.now × ¬ (IsNext (last_row self.now) landing.now)) }
-        ensures total { IsErrOf result GameFault.Total ↔ (IsBegun self.now × IsLanding self.now.shape landing.now × IsNext (last_row self.now) landing.now × ¬ (HasWeightLeft self.now landing.now.weight)) }
-        ensures others { (fault : GameFault) → IsErrOf result fault → (fault ≡ GameFault.Missing) ⊎ (fault ≡ GameFault.Range) ⊎ (fault ≡ GameFault.Order) ⊎ (fault ≡ GameFault.Total) }
+        ensures order { IsErrOf result GameFault.Order
+            ↔ (IsBegun self.now × IsLanding self.now.shape landing.now
+            × ¬ (IsNext (last_row self.now) landing.now)) }
+        ensures total { IsErrOf result GameFault.Total
+            ↔ (IsBegun self.now × IsLanding self.now.shape landing.now × IsNext (last_row self.now) landing.now
+            × ¬ (HasWeightLeft self.now landing.now.weight)) }
+        ensures others { (fault : GameFault) → IsErrOf result fault →
+            (fault ≡ GameFault.Missing) ⊎ (fault ≡ GameFault.Range) ⊎ (fault ≡ GameFault.Order)
+            ⊎ (fault ≡ GameFault.Total) }
         ensures front { IsGameFront self.now }
-        ensures admitted { OnOk result (IsBegun self.now × IsLanding self.now.shape landing.now × IsNext (last_row self.now) landing.now × HasWeightLeft self.now landing.now.weight) }
+        ensures admitted { OnOk result (IsBegun self.now × IsLanding self.now.shape landing.now
+            × IsNext (last_row self.now) landing.now × HasWeightLeft self.now landing.now.weight) }
     {
         if !self.is_begun() {
             return Err(GameFault::Missing);

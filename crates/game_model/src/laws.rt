@@ -3,7 +3,7 @@
 ghost use Rattle.game_model.specs.Laws.{AlwaysEarns, AlwaysEarnsFamily, AlwaysIsPlan, FirstStepsByParts, PayByFirstSteps, PlaysAreListed};
 ghost use Rattle.game_model.specs.Laws.{PlaysAreLong, PlaysAreOnce, PlaysByFirstSteps, RowsAdd, RowsScale, RowsSum, WeightsOfPlays};
 ghost use Rattle.game_model.specs.Mixed.{MixedAreRight, MixedPay, ScaledAreRight, ScaledPay};
-ghost use Rattle.game_model.specs.Seeds.{SeedsAreOne, SeedsEarn, SeedsStand};
+ghost use Rattle.game_model.specs.Seeds.{SeedsAreOne, SeedsEarn, SeedsExist, SeedsStand};
 
 /// A law: the list of plays holds just the plays, each once, and each of as many steps as there are stages.
 pub fn law_plays()
@@ -47,9 +47,10 @@ pub fn law_families()
     ensures { AlwaysEarnsFamily }
 {}
 
-/// A law: an action has one seed vector, which stands and lies within the span; and always to play the action earns
-/// the vector's product with the first belief, less the tail.
+/// A law: every action has a seed vector, and only one, which stands and lies within the span; and always to play the
+/// action earns the vector's product with the first belief, less the tail.
 pub fn law_seeds()
+    ensures exist { SeedsExist }
     ensures one { SeedsAreOne }
     ensures stand { SeedsStand }
     ensures earn { SeedsEarn }

@@ -68,7 +68,9 @@ fn round(game: &Game, a: u32, old: &[i128], new: &mut [i128])
     requires action { a < game.now.shape.own_actions }
     requires bounded { IsBounded game.now old.now }
     requires states { length new.old ≡ game.now.shape.states }
-    ensures floors { (s : ℕ) → s < game.now.shape.states → IsLeastFloor (numbers game.now) a (λ t. slice_index_or old.now t (pos 0)) s (slice_index_or new.new s (pos 0)) }
+    ensures floors { (s : ℕ) → s < game.now.shape.states →
+        IsLeastFloor (numbers game.now) a (λ t. slice_index_or old.now t (pos 0)) s
+        (slice_index_or new.new s (pos 0)) }
     ensures bounded { IsBounded game.now new.new }
 {
     law_game(game);
@@ -96,7 +98,8 @@ fn least_worth(game: &Game, a: u32, s: u32, old: &[i128]) -> i128
     requires action { a < game.now.shape.own_actions }
     requires state { s < game.now.shape.states }
     requires bounded { IsBounded game.now old.now }
-    ensures least { IsLeastOf (stage_worth (numbers game.now) a (λ t. slice_index_or old.now t (pos 0)) s) game.now.shape.informed_actions result }
+    ensures least { IsLeastOf (stage_worth (numbers game.now) a (λ t. slice_index_or old.now t (pos 0)) s)
+        game.now.shape.informed_actions result }
     ensures bounded { IsWorthWithin game.now result }
 {
     law_game(game);

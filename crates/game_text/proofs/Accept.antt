@@ -1,5 +1,6 @@
 -- Accepted lines are texts of games, and texts of games are accepted.
 use Rattle.std.proofs.Common.{◌≡◌, ℕ, ◌≤◌, List, [], ◌∷◌, ◌++◌, reverse, length, map, ℤ, pos, refl, sym, ap, subst, ◌∙◌, arith, inl, inr}
+use Rattle.game_model.specs.Limits.{most_reward, most_row_total}
 use Rattle.std.specs.Prelude.{neg_ℤ}
 use Rattle.std.specs.List.{AllByRecursion}
 use Rattle.std.proofs.lemmas.List.{append_cancel_right, length-reverse}
@@ -10,7 +11,6 @@ use Rattle.game_model.specs.declared.parts.Shape.{Shape}
 use Rattle.game_model.specs.declared.parts.Landing.{Landing}
 use Rattle.game_model.specs.Game.{GameData, IsGame, IsBelief}
 use Rattle.game_text.specs.declared.fault.Kind.{Kind}
-use Rattle.game_text.specs.Forms.{most_total}
 use Rattle.game_text.specs.Text.{scaled, text_of, IsTextOf}
 use Rattle.game_text.specs.Entries.{Entry, Version, Size, Total, Discount, First, Step, Out, End, shape_in}
 use Rattle.game_text.specs.Steps.{Reads, ReadsAll, Halts, HaltsAlone, GoesPast}
@@ -71,13 +71,13 @@ may_small : (before : List Entry) (e : Entry) → Run before → May before e �
 may_small before Version run may = (omega arith, tt)
 may_small before (Size s a c o) run may =
     let f = may.2 in (omega (arith, f.states), (omega (arith, f.own_actions), (omega (arith, f.informed_actions), (omega (arith, f.observations), tt))))
-may_small before (Total t) run may = (small_within (pos 1) (pos most_total) t (omega arith) (omega arith) may.6, tt)
+may_small before (Total t) run may = (small_within (pos 1) (pos most_row_total) t (omega arith) (omega arith) may.6, tt)
 may_small before (Discount p q) run may = let s = small_discount p q may.3 in (s.0, (s.1, tt))
 may_small before (First w) run may = small_weights w may.4.each
 may_small before (Step s a c r) run may =
     let limits = shape_limits before run (open_before before may.0) in
     let f = may.1 in
-    (omega (arith, f.state, limits.states), (omega (arith, f.own, limits.own_actions), (omega (arith, f.informed, limits.informed_actions), (small_within (neg_ℤ (pos most_total)) (pos most_total) r (omega arith) (omega arith) f.range, tt))))
+    (omega (arith, f.state, limits.states), (omega (arith, f.own, limits.own_actions), (omega (arith, f.informed, limits.informed_actions), (small_within (neg_ℤ (pos most_reward)) (pos most_reward) r (omega arith) (omega arith) f.range, tt))))
 may_small before (Out l) run may =
     let limits = shape_limits before run (open_row before may.0) in
     let f = may.1 in

@@ -5,10 +5,10 @@ use mathlib.Core.List.{reverse-cons}
 use Rattle.std.proofs.lemmas.List.{get_or_at, set_at, take_more, take_all, length_push}
 use Rattle.game_model.specs.declared.parts.Landing.{Landing}
 use Rattle.game_model.specs.Game.{GameData}
-use Rattle.game_text.specs.declared.place.RowEntry.{RowEntry}
-use Rattle.game_text.specs.declared.place.RowEntry.TheVariants as row
+use Rattle.game_text.specs.declared.progress.RowEntry.{RowEntry}
+use Rattle.game_text.specs.declared.progress.RowEntry.TheVariants as row
 use Rattle.game_text.specs.Entries.{Entry}
-use Rattle.game_text.specs.Place.{entry_in, said}
+use Rattle.game_text.specs.Progress.{entry_in, said}
 use Rattle.game_text.specs.Built.{rewards_in, onto_last, rows_in, IsBuilt, with_entry}
 use Rattle.game_text.proofs.RowSteps.{said-push}
 

@@ -12,7 +12,8 @@ use Rattle.game_model.specs.declared.parts.Shape.{Shape}
 use Rattle.game_model.specs.declared.parts.Landing.{Landing}
 use Rattle.game_model.specs.Game.{GameData, triples, triple}
 use Rattle.game_text.specs.Forms.{state_at, own_at, informed_at}
-use Rattle.game_text.specs.Text.{line_of, landing_line, step_line, row_text, rows_text, header_text, text_of}
+use Rattle.game_text.specs.Text.{landing_line, step_line, row_text, rows_text, header_text, text_of}
+use Rattle.text_words.specs.Spelled.{line_of}
 use Rattle.game_text.specs.Entries.{Entry, Version, Size, Total, Discount, First, Out, End}
 use Rattle.game_text.proofs.Said.{words_in}
 use Rattle.game_text.proofs.Runs.{header, step_of, outs, spelled, Good}

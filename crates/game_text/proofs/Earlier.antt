@@ -1,20 +1,18 @@
 -- No line before the end is refused as one that follows it.
 use Rattle.std.proofs.Common.{◌≡◌, ℕ, ◌==◌, Bool, true, false, cond, ◌&&◌, ◌||◌, List, [], ◌∷◌, Option, Some, None, Result, Ok, Err, ℤ, pos, ap, ◌∙◌}
+use Rattle.game_model.specs.Limits.{most_belief, most_discount, most_reward, most_row_total}
 use Rattle.std.specs.Prelude.{neg_ℤ, ◌+ℤ◌, ◌*ℤ◌, ◌^◌, max, unsigned_abs, int_le, int_lt, nat_lt, codes}
 use Rattle.std.specs.List.{list_all}
 use Rattle.std.specs.Str.{bytes_eq}
 use Rattle.scaled_num.specs.Sums.{sum_of}
 use Rattle.text_words.specs.Lines.{Line}
 use Rattle.text_words.specs.Forms.{◌>>=◌, number_at, is_within, begins, limited, below_limit, each_within}
-use Rattle.text_words.specs.Forms as forms
-use Rattle.text_words.specs.declared.forms.NumbersFault.{NumbersFault}
-use Rattle.text_words.specs.declared.forms.NumbersFault.TheVariants as numbers
-use Rattle.text_words.proofs.Numerals.{by_kind, numbers_after-by_kind}
+use Rattle.text_words.proofs.Numerals.{numbers_after-each}
 use Rattle.game_model.specs.declared.parts.Shape.{Shape}
 use Rattle.game_model.specs.Game.{triples}
 use Rattle.game_text.specs.declared.fault.Kind.{Kind}
 use Rattle.game_text.specs.declared.fault.Kind.TheVariants as kinds
-use Rattle.game_text.specs.Forms.{within, numbers_after, version_line, most_total, most_weight, discount_within, total_within, state_at, own_at, informed_at, next_triple, full_row, narrow_reward, later_pair, fits_row}
+use Rattle.game_text.specs.Forms.{within, numbers_after, version_line, discount_within, total_within, state_at, own_at, informed_at, next_triple, full_row, narrow_reward, later_pair, fits_row}
 use Rattle.game_text.specs.Entries.{Entry, Version, Size, Total, Discount, First, Step, Out, End, shape_in, begun_in, sum_in, entry_of, version_said, size_said, total_said, discount_said, first_said, step_said, out_said, end_said, row_end_said}
 use Rattle.game_text.specs.Reading.{IsUnfinished}
 use Rattle.game_text.specs.Steps.{line_at, Halts}
@@ -76,14 +74,8 @@ wide_other h = cc
 missing_other : IsOther kinds.Missing
 missing_other h = cc
 
-never_kind : (r : Result (List ℤ) NumbersFault) → Never (by_kind kinds.Shape kinds.Number r)
-never_kind (Ok ns) = never_done ns
-never_kind (Err numbers.Shape) = never_fails kinds.Shape shape_other
-never_kind (Err numbers.Number) = never_fails kinds.Number number_other
-never_kind (Err numbers.OutOfMemory) = never_fails kinds.Shape shape_other
-
 never_numbers : (name : List ℕ) (count : ℕ) (line : Line) → Never (numbers_after name count line)
-never_numbers name count line = rw (numbers_after-by_kind kinds.Shape kinds.Number name count line) (never_kind (forms.numbers_after numbers.Shape numbers.Number name count line))
+never_numbers name count line = numbers_after-each Never kinds.Shape kinds.Number name count line (never_fails kinds.Shape shape_other) (never_fails kinds.Number number_other) never_done
 
 never_version : (line : Line) → Never (version_line line)
 unfolding version_line
@@ -106,15 +98,15 @@ never_below limit x = never_cond (int_le (pos 0) x && int_lt x (pos limit)) (uns
 
 never_discount : (over under : ℤ) → Never (discount_within over under)
 unfolding discount_within
-never_discount over under = never_cond (int_le (pos 0) over && int_lt over under && int_le under (pos most_weight)) (over, under) kinds.Range range_other
+never_discount over under = never_cond (int_le (pos 0) over && int_lt over under && int_le under (pos most_discount)) (over, under) kinds.Range range_other
 
-never_weights : (ns : List ℤ) → Never (each_within kinds.Range (pos 0) (pos most_weight) ns)
+never_weights : (ns : List ℤ) → Never (each_within kinds.Range (pos 0) (pos most_belief) ns)
 unfolding each_within
-never_weights ns = never_cond (list_all (is_within (pos 0) (pos most_weight)) ns) tt kinds.Range range_other
+never_weights ns = never_cond (list_all (is_within (pos 0) (pos most_belief)) ns) tt kinds.Range range_other
 
 never_total : (ns : List ℤ) → Never (total_within ns)
 unfolding total_within
-never_total ns = never_cond (is_within (pos 1) (pos most_weight) (sum_of ns)) tt kinds.Belief belief_other
+never_total ns = never_cond (is_within (pos 1) (pos most_belief) (sum_of ns)) tt kinds.Belief belief_other
 
 never_next : (shape : Shape) (k s a c : ℕ) → Never (next_triple shape k s a c)
 unfolding next_triple
@@ -144,7 +136,7 @@ never_step shape k sum line =
     never_bind (below_limit kinds.Range shape.states (number_at ns 0)) _ (never_below shape.states (number_at ns 0)) λ s.
     never_bind (below_limit kinds.Range shape.own_actions (number_at ns 1)) _ (never_below shape.own_actions (number_at ns 1)) λ a.
     never_bind (below_limit kinds.Range shape.informed_actions (number_at ns 2)) _ (never_below shape.informed_actions (number_at ns 2)) λ c.
-    never_bind (limited kinds.Range (neg_ℤ (pos most_total)) (pos most_total) (number_at ns 3)) _ (never_limited (neg_ℤ (pos most_total)) (pos most_total) (number_at ns 3)) λ r.
+    never_bind (limited kinds.Range (neg_ℤ (pos most_reward)) (pos most_reward) (number_at ns 3)) _ (never_limited (neg_ℤ (pos most_reward)) (pos most_reward) (number_at ns 3)) λ r.
     never_bind (next_triple shape k s a c) _ (never_next shape k s a c) λ u.
     never_bind (full_row shape k sum) _ (never_full shape k sum) λ v.
     never_bind (narrow_reward shape r) _ (never_narrow shape r) λ w.
@@ -182,7 +174,7 @@ never_total_line : (line : Line) → Never (total_said line)
 unfolding total_said
 never_total_line line =
     never_bind (numbers_after (codes "total") 1 line) _ (never_numbers (codes "total") 1 line) λ ns.
-    never_bind (limited kinds.Range (pos 1) (pos most_total) (number_at ns 0)) _ (never_limited (pos 1) (pos most_total) (number_at ns 0)) λ t.
+    never_bind (limited kinds.Range (pos 1) (pos most_row_total) (number_at ns 0)) _ (never_limited (pos 1) (pos most_row_total) (number_at ns 0)) λ t.
     never_done (Total t)
 
 never_discount_line : (line : Line) → Never (discount_said line)
@@ -196,7 +188,7 @@ never_first : (states : ℕ) (line : Line) → Never (first_said states line)
 unfolding first_said
 never_first states line =
     never_bind (numbers_after (codes "first") states line) _ (never_numbers (codes "first") states line) λ ns.
-    never_bind (each_within kinds.Range (pos 0) (pos most_weight) ns) _ (never_weights ns) λ u.
+    never_bind (each_within kinds.Range (pos 0) (pos most_belief) ns) _ (never_weights ns) λ u.
     never_bind (total_within ns) _ (never_total ns) λ v.
     never_done (First ns)
 

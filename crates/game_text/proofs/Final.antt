@@ -52,10 +52,10 @@ dropped text front rest e =
     let counted : length front ≡ length text - length rest = omega (arith, ap length e, length-append {A = ℕ}) in
     (omega arith, ap (drop (length text - length rest)) e ∙ drop_at front rest (length text - length rest) counted)
 
-pub record Found (text : List ℕ) (count place : ℕ) (g : GameData) : Type 0 where
-  pub place_within : place ≤ length text
-  pub ends : EndsAfter text count (drop place text)
-  pub game : IsTextOf g text (drop place text)
+pub record Found (text : List ℕ) (count offset : ℕ) (g : GameData) : Type 0 where
+  pub offset_within : offset ≤ length text
+  pub ends : EndsAfter text count (drop offset text)
+  pub game : IsTextOf g text (drop offset text)
 
 found_at : (text : List ℕ) (count : ℕ) (before : List Entry) (rest : List ℕ) (first : List ℤ) (g : GameData) → Reads (lines_of text) count (End ∷ before) (lines_of rest) → after_lines count text ≡ rest
     → IsBuilt first (End ∷ before) g → weights_in before ≡ first → IsGame g → Found text count (length text - length rest) g
@@ -63,7 +63,7 @@ found_at text count before rest first g reads after built weights game =
     let b = accepted_bytes text count (End ∷ before) (lines_of rest) reads in
     let d = dropped text (back_text (End ∷ before)) rest (b.0 ∙ ap (λ (l : List ℕ). back_text (End ∷ before) ++ l) after) in
     record {
-      place_within = d.0;
+      offset_within = d.0;
       ends = subst (EndsAfter text count) (sym d.1) (before, reads, after);
       game = subst (IsTextOf g text) (sym d.1) (built_game text count before rest first g reads after built weights game);
     }

@@ -1,5 +1,6 @@
 -- What each test of a line says.
 use Rattle.std.proofs.Common.{◌≡◌, ℕ, ◌^◌, ◌<◌, ◌≤◌, true, ◌&&◌, ◌||◌, eqb, ltb, List, Option, Some, None, Ok, ℤ, pos, refl, ap, ◌∙◌, arith, inl, inr, ◌⊎◌}
+use Rattle.game_model.specs.Limits.{most_belief, most_discount}
 use Rattle.std.specs.Prelude.{◌≤ℤ◌, ◌<ℤ◌, ◌+ℤ◌, ◌*ℤ◌, unsigned_abs, max, int_le, int_lt, ◌==◌, nat_lt}
 use Rattle.std.proofs.lemmas.Int.{ints}
 use Rattle.std.proofs.lemmas.Bool.{eqb-true, ltb-true}
@@ -10,7 +11,7 @@ use Rattle.text_words.proofs.Limits.{cond_ok, and_true, true_and, or_true, or_la
 use Rattle.game_model.specs.declared.parts.Shape.{Shape}
 use Rattle.game_model.specs.Game.{IsWithin, IsNarrow}
 use Rattle.game_text.specs.declared.fault.Kind.TheVariants as kinds
-use Rattle.game_text.specs.Forms.{within, most_weight, discount_within, total_within, state_at, own_at, informed_at, next_triple, full_row, narrow_reward, later_pair, fits_row}
+use Rattle.game_text.specs.Forms.{within, discount_within, total_within, state_at, own_at, informed_at, next_triple, full_row, narrow_reward, later_pair, fits_row}
 
 -- the tests of numbers
 
@@ -28,26 +29,26 @@ within-to low high n l m = rw (within_to (pos low) (pos high) (pos n) (omega (ar
 
 -- the tests of a line of the header
 
-pub discount_within-ok : (over under : ℤ) (d : ℤ × ℤ) → discount_within over under ≡ Ok d → (pos 0 ≤ℤ over) × (over <ℤ under) × (under ≤ℤ pos most_weight) × ((over, under) ≡ d)
+pub discount_within-ok : (over under : ℤ) (d : ℤ × ℤ) → discount_within over under ≡ Ok d → (pos 0 ≤ℤ over) × (over <ℤ under) × (under ≤ℤ pos most_discount) × ((over, under) ≡ d)
 unfolding discount_within
 discount_within-ok over under d h =
-    let p = cond_ok (int_le (pos 0) over && int_lt over under && int_le under (pos most_weight)) (over, under) d kinds.Range h in
-    let q = and_true (int_le (pos 0) over && int_lt over under) (int_le under (pos most_weight)) p.0 in
+    let p = cond_ok (int_le (pos 0) over && int_lt over under && int_le under (pos most_discount)) (over, under) d kinds.Range h in
+    let q = and_true (int_le (pos 0) over && int_lt over under) (int_le under (pos most_discount)) p.0 in
     let r = and_true (int_le (pos 0) over) (int_lt over under) q.0 in
-    (le_from (pos 0) over r.0, lt_from over under r.1, le_from under (pos most_weight) q.1, p.1)
+    (le_from (pos 0) over r.0, lt_from over under r.1, le_from under (pos most_discount) q.1, p.1)
 
-pub discount_within-to : (over under : ℤ) → pos 0 ≤ℤ over → over <ℤ under → under ≤ℤ pos most_weight → discount_within over under ≡ Ok (over, under)
+pub discount_within-to : (over under : ℤ) → pos 0 ≤ℤ over → over <ℤ under → under ≤ℤ pos most_discount → discount_within over under ≡ Ok (over, under)
 unfolding discount_within
 discount_within-to over under a b c =
-    rw (true_and (int_le (pos 0) over && int_lt over under) (int_le under (pos most_weight)) (true_and (int_le (pos 0) over) (int_lt over under) (le_to (pos 0) over a) (lt_to over under b)) (le_to under (pos most_weight) c)) refl
+    rw (true_and (int_le (pos 0) over && int_lt over under) (int_le under (pos most_discount)) (true_and (int_le (pos 0) over) (int_lt over under) (le_to (pos 0) over a) (lt_to over under b)) (le_to under (pos most_discount) c)) refl
 
-pub total_within-ok : (weights : List ℤ) (u : Unit {0}) → total_within weights ≡ Ok u → IsWithin (pos 1) (pos most_weight) (sum_of weights)
+pub total_within-ok : (weights : List ℤ) (u : Unit {0}) → total_within weights ≡ Ok u → IsWithin (pos 1) (pos most_belief) (sum_of weights)
 unfolding total_within
-total_within-ok weights u h = within_from (pos 1) (pos most_weight) (sum_of weights) (cond_ok (is_within (pos 1) (pos most_weight) (sum_of weights)) tt u kinds.Belief h).0
+total_within-ok weights u h = within_from (pos 1) (pos most_belief) (sum_of weights) (cond_ok (is_within (pos 1) (pos most_belief) (sum_of weights)) tt u kinds.Belief h).0
 
-pub total_within-to : (weights : List ℤ) → IsWithin (pos 1) (pos most_weight) (sum_of weights) → total_within weights ≡ Ok tt
+pub total_within-to : (weights : List ℤ) → IsWithin (pos 1) (pos most_belief) (sum_of weights) → total_within weights ≡ Ok tt
 unfolding total_within
-total_within-to weights h = rw (within_to (pos 1) (pos most_weight) (sum_of weights) h) refl
+total_within-to weights h = rw (within_to (pos 1) (pos most_belief) (sum_of weights) h) refl
 
 -- the tests of a line of the rows
 

@@ -20,3 +20,4 @@ pub mod RuleTests
 pub mod Verdicts
 pub mod Judged
 pub mod Ruled
+pub mod Canonical

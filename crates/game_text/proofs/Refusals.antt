@@ -37,14 +37,14 @@ no_text text (Line number kind) r = λ g t. whole_not_refused text g number kind
 no_text text OutOfMemory r = tt
 
 -- bytes follow the end
-pub goes_on : (text : List ℕ) (count place : ℕ) → EndsAfter text count (drop place text) → place < length text → HaltsAlone text (count + 1) kinds.Trailing
-goes_on text count place ends more =
-    let left : 0 < length (after_lines count text) = omega (arith, ap length ends.2, length-drop place text) in
-    inr (count, ends.0, lines_of (drop place text), ends.1, left, refl, refl)
+pub goes_on : (text : List ℕ) (count progress : ℕ) → EndsAfter text count (drop progress text) → progress < length text → HaltsAlone text (count + 1) kinds.Trailing
+goes_on text count progress ends more =
+    let left : 0 < length (after_lines count text) = omega (arith, ap length ends.2, length-drop progress text) in
+    inr (count, ends.0, lines_of (drop progress text), ends.1, left, refl, refl)
 
-pub refused_behind : (text : List ℕ) (count place : ℕ) → EndsAfter text count (drop place text) → place < length text → RefusesAlone text (count + 1) kinds.Trailing
-refused_behind text count place ends more = alone_from text (count + 1) kinds.Trailing (goes_on text count place ends more)
+pub refused_behind : (text : List ℕ) (count progress : ℕ) → EndsAfter text count (drop progress text) → progress < length text → RefusesAlone text (count + 1) kinds.Trailing
+refused_behind text count progress ends more = alone_from text (count + 1) kinds.Trailing (goes_on text count progress ends more)
 
 -- nothing follows it
-pub to_the_end : (text : List ℕ) (place : ℕ) (g : GameData) → length text ≤ place → IsTextOf g text (drop place text) → IsTextOf g text []
-to_the_end text place g le t = subst (IsTextOf g text) (drop_all place text le) t
+pub to_the_end : (text : List ℕ) (progress : ℕ) (g : GameData) → length text ≤ progress → IsTextOf g text (drop progress text) → IsTextOf g text []
+to_the_end text progress g le t = subst (IsTextOf g text) (drop_all progress text le) t

@@ -1,5 +1,6 @@
 -- The reader's tests: each gives its value exactly where its rule is kept, and else its kind.
 use Rattle.std.proofs.Common.{◌≡◌, ℕ, ◌^◌, Bool, true, ◌&&◌, ◌||◌, List, Option, Some, None, ℤ, pos, refl, arith, inl, inr, ◌⊎◌}
+use Rattle.game_model.specs.Limits.{most_belief, most_discount}
 use Rattle.std.specs.Prelude.{◌≤ℤ◌, ◌<ℤ◌, ◌+ℤ◌, ◌*ℤ◌, unsigned_abs, max, int_le, int_lt, ◌==◌, nat_lt}
 use Rattle.std.proofs.lemmas.Int.{ints}
 use Rattle.std.proofs.lemmas.Bool.{eqb-true, ltb-true}
@@ -10,7 +11,7 @@ use Rattle.text_words.proofs.Chains.{Tests, cond_tests}
 use Rattle.game_model.specs.declared.parts.Shape.{Shape}
 use Rattle.game_model.specs.Game.{IsWithin}
 use Rattle.game_text.specs.declared.fault.Kind.TheVariants as kinds
-use Rattle.game_text.specs.Forms.{within, most_weight, discount_within, total_within, state_at, own_at, informed_at, next_triple, full_row, narrow_reward, later_pair, fits_row}
+use Rattle.game_text.specs.Forms.{within, discount_within, total_within, state_at, own_at, informed_at, next_triple, full_row, narrow_reward, later_pair, fits_row}
 use Rattle.game_text.proofs.Guards.{IsAfter, squeezed, eq_true, lt_true}
 
 pub within-tests : (low high : ℕ) (x : ℤ) → Tests (within low high x) kinds.Range (unsigned_abs x) (IsWithin (pos low) (pos high) x)
@@ -18,22 +19,22 @@ unfolding within
 within-tests low high x = cond_tests (is_within (pos low) (pos high) x) (unsigned_abs x) kinds.Range (IsWithin (pos low) (pos high) x) (within_from (pos low) (pos high) x) (within_to (pos low) (pos high) x)
 
 abbrev pub IsDiscountOf : ℤ → ℤ → Type 0
-IsDiscountOf over under = (pos 0 ≤ℤ over) × (over <ℤ under) × (under ≤ℤ pos most_weight)
+IsDiscountOf over under = (pos 0 ≤ℤ over) × (over <ℤ under) × (under ≤ℤ pos most_discount)
 
 pub discount-tests : (over under : ℤ) → Tests (discount_within over under) kinds.Range (over, under) (IsDiscountOf over under)
 unfolding discount_within
 discount-tests over under =
-    cond_tests (int_le (pos 0) over && int_lt over under && int_le under (pos most_weight)) (over, under) kinds.Range (IsDiscountOf over under)
+    cond_tests (int_le (pos 0) over && int_lt over under && int_le under (pos most_discount)) (over, under) kinds.Range (IsDiscountOf over under)
     (λ e.
-    (let q = and_true (int_le (pos 0) over && int_lt over under) (int_le under (pos most_weight)) e in
+    (let q = and_true (int_le (pos 0) over && int_lt over under) (int_le under (pos most_discount)) e in
     let r = and_true (int_le (pos 0) over) (int_lt over under) q.0 in
-    (le_from (pos 0) over r.0, lt_from over under r.1, le_from under (pos most_weight) q.1)))
-    (λ p. true_and (int_le (pos 0) over && int_lt over under) (int_le under (pos most_weight)) (true_and (int_le (pos 0) over) (int_lt over under) (le_to (pos 0) over p.0) (lt_to over under p.1)) (le_to under (pos most_weight) p.2))
+    (le_from (pos 0) over r.0, lt_from over under r.1, le_from under (pos most_discount) q.1)))
+    (λ p. true_and (int_le (pos 0) over && int_lt over under) (int_le under (pos most_discount)) (true_and (int_le (pos 0) over) (int_lt over under) (le_to (pos 0) over p.0) (lt_to over under p.1)) (le_to under (pos most_discount) p.2))
 
-pub total-tests : (weights : List ℤ) → Tests (total_within weights) kinds.Belief tt (IsWithin (pos 1) (pos most_weight) (sum_of weights))
+pub total-tests : (weights : List ℤ) → Tests (total_within weights) kinds.Belief tt (IsWithin (pos 1) (pos most_belief) (sum_of weights))
 unfolding total_within
 total-tests weights =
-    cond_tests (is_within (pos 1) (pos most_weight) (sum_of weights)) tt kinds.Belief (IsWithin (pos 1) (pos most_weight) (sum_of weights)) (within_from (pos 1) (pos most_weight) (sum_of weights)) (within_to (pos 1) (pos most_weight) (sum_of weights))
+    cond_tests (is_within (pos 1) (pos most_belief) (sum_of weights)) tt kinds.Belief (IsWithin (pos 1) (pos most_belief) (sum_of weights)) (within_from (pos 1) (pos most_belief) (sum_of weights)) (within_to (pos 1) (pos most_belief) (sum_of weights))
 
 abbrev pub IsTripleAt : Shape → ℕ → ℕ → ℕ → ℕ → Type 0
 IsTripleAt shape k s a c = (s ≡ state_at shape k) × (a ≡ own_at shape k) × (c ≡ informed_at shape k)

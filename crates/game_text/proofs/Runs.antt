@@ -1,5 +1,6 @@
 -- Entries that may stand in a row, and the rows that they spell.
 use Rattle.std.proofs.Common.{◌≡◌, ℕ, ◌*◌, ◌/◌, ◌<◌, Bool, true, false, cond, eqb, List, [], ◌∷◌, length, map, Option, Some, None, Ok, ℤ, pos, refl, sym, ap, subst, ◌∙◌, arith, inl, inr, ◌⊎◌}
+use Rattle.game_model.specs.Limits.{most_row_total}
 use Rattle.std.specs.Prelude.{◌≤ℤ◌, ◌+ℤ◌, codes}
 use Rattle.std.specs.List.{AllByRecursion}
 use Rattle.std.proofs.lemmas.Int.{ints}
@@ -12,9 +13,9 @@ use Rattle.text_words.specs.Forms.{begins}
 use Rattle.game_model.specs.declared.parts.Shape.{Shape}
 use Rattle.game_model.specs.declared.parts.Landing.{Landing}
 use Rattle.game_model.specs.Game.{IsWithin, IsBelief, IsNarrow, IsShape, IsBefore, IsLanding, IsRewardInRange, triples, row_sum}
-use Rattle.game_text.specs.Forms.{most_total, state_at, own_at, informed_at}
+use Rattle.game_text.specs.Forms.{state_at, own_at, informed_at}
 use Rattle.game_text.specs.Entries.{Entry, Version, Size, Total, Discount, First, Step, Out, End, shape_in, begun_in, sum_in, pair_in, entry_of, row_end_said, out_said, step_said, end_said}
-use Rattle.game_text.specs.Place.{IsOpen}
+use Rattle.game_text.specs.Progress.{IsOpen}
 use Rattle.game_text.specs.Steps.{Say}
 use Rattle.game_text.proofs.Guards.{IsAfter}
 use Rattle.game_text.proofs.Said.{words_in, SizeFits, DiscountFits, StepFits, OutFits, version-ok, version-to, size-ok, size-to, total-ok, total-to, discount-ok, discount-to, first-ok, first-to, step-ok, step-to, out-ok, out-to, end-ok, end-to}
@@ -34,7 +35,7 @@ IsOut before = (l : Landing) × (b : List Entry) × (before ≡ Out l ∷ b)
 abbrev pub May : List Entry → Entry → Type 0
 May before Version = before ≡ []
 May before (Size s a c o) = (b : List Entry) × (before ≡ Version ∷ b) × SizeFits s a c o
-May before (Total total) = (s : ℕ) × (a : ℕ) × (c : ℕ) × (o : ℕ) × (b : List Entry) × (before ≡ Size s a c o ∷ b) × IsWithin (pos 1) (pos most_total) total
+May before (Total total) = (s : ℕ) × (a : ℕ) × (c : ℕ) × (o : ℕ) × (b : List Entry) × (before ≡ Size s a c o ∷ b) × IsWithin (pos 1) (pos most_row_total) total
 May before (Discount over under) = (total : ℤ) × (b : List Entry) × (before ≡ Total total ∷ b) × DiscountFits over under
 May before (First weights) = (over : ℤ) × (under : ℤ) × (b : List Entry) × (before ≡ Discount over under ∷ b) × IsBelief (shape_in before).states weights
 May before (Step s a c reward) = (IsFirst before ⊎ IsOut before) × StepFits (shape_in before) (begun_in before) (sum_in before) s a c reward
@@ -254,7 +255,7 @@ size_front s a c o b run =
     let r : Run (Version ∷ m.0) = subst Run m.1 run.1 in
     (ap (λ (x : List Entry). Size s a c o ∷ x) (m.1 ∙ ap (λ (x : List Entry). Version ∷ x) r.0), m.2)
 
-total_front : (t : ℤ) (b : List Entry) → Run (Total t ∷ b) → (s : ℕ) × (a : ℕ) × (c : ℕ) × (o : ℕ) × (Total t ∷ b ≡ Total t ∷ sized s a c o) × SizeFits s a c o × IsWithin (pos 1) (pos most_total) t
+total_front : (t : ℤ) (b : List Entry) → Run (Total t ∷ b) → (s : ℕ) × (a : ℕ) × (c : ℕ) × (o : ℕ) × (Total t ∷ b ≡ Total t ∷ sized s a c o) × SizeFits s a c o × IsWithin (pos 1) (pos most_row_total) t
 total_front t b run =
     let m = run.0 in
     let f = size_front m.0 m.1 m.2 m.3 m.4 (subst Run m.5 run.1) in
@@ -266,7 +267,7 @@ pub record HeaderFront (w : List ℤ) (b : List Entry) : Type 0 where
   pub limits : IsShape shape
   pub belief : IsBelief shape.states w
 
-header_from : (w : List ℤ) (b : List Entry) (p q t : ℤ) (s a c o : ℕ) → b ≡ Discount p q ∷ Total t ∷ sized s a c o → SizeFits s a c o → IsWithin (pos 1) (pos most_total) t → DiscountFits p q → IsBelief (shape_in b).states w → HeaderFront w b
+header_from : (w : List ℤ) (b : List Entry) (p q t : ℤ) (s a c o : ℕ) → b ≡ Discount p q ∷ Total t ∷ sized s a c o → SizeFits s a c o → IsWithin (pos 1) (pos most_row_total) t → DiscountFits p q → IsBelief (shape_in b).states w → HeaderFront w b
 header_from w b p q t s a c o e sizes total discount belief = record {
   shape = record { states = s; own_actions = a; informed_actions = c; observations = o; row_total = t; discount = (p, q) };
   same = ap (λ (x : List Entry). First w ∷ x) e;
@@ -385,7 +386,7 @@ back_size : (b : List Entry) (s a c o : ℕ) → SizeFits s a c o → Back (Vers
 unfolding entry_of
 back_size b s a c o f = size-to s a c o f
 
-back_total : (s a c o : ℕ) (b : List Entry) (t : ℤ) → IsWithin (pos 1) (pos most_total) t → Back (Size s a c o ∷ b) (Total t)
+back_total : (s a c o : ℕ) (b : List Entry) (t : ℤ) → IsWithin (pos 1) (pos most_row_total) t → Back (Size s a c o ∷ b) (Total t)
 unfolding entry_of
 back_total s a c o b t f = total-to t f
 

@@ -1,5 +1,6 @@
 -- What a line says, and the words of a line that says it.
 use Rattle.std.proofs.Common.{◌≡◌, ℕ, ◌<◌, ◌≤◌, ◌&&◌, List, [], ◌∷◌, Option, Result, Ok, ℤ, pos, refl, sym, ap, ◌∙◌, arith, inl, inr, ◌⊎◌}
+use Rattle.game_model.specs.Limits.{most_belief, most_discount, most_reward, most_row_total}
 use Rattle.std.proofs.lemmas.Fmt.{decimal_digit}
 use Rattle.std.specs.Prelude.{◌≤ℤ◌, ◌<ℤ◌, ◌+ℤ◌, neg_ℤ, codes}
 use Rattle.std.specs.List.{AllByRecursion}
@@ -15,7 +16,7 @@ use Rattle.game_model.specs.declared.parts.Landing.{Landing}
 use Rattle.game_model.specs.Game.{IsWithin, IsBelief, IsNarrow, IsShape}
 use Rattle.game_text.specs.declared.fault.Kind.{Kind}
 use Rattle.game_text.specs.declared.fault.Kind.TheVariants as kinds
-use Rattle.game_text.specs.Forms.{within, numbers_after, version_line, most_total, most_weight, discount_within, total_within, state_at, own_at, informed_at, next_triple, full_row, narrow_reward, later_pair, fits_row}
+use Rattle.game_text.specs.Forms.{within, numbers_after, version_line, discount_within, total_within, state_at, own_at, informed_at, next_triple, full_row, narrow_reward, later_pair, fits_row}
 use Rattle.game_text.specs.Entries.{Entry, Version, Size, Total, Discount, First, Step, Out, End, version_said, size_said, total_said, discount_said, first_said, step_said, out_said, end_said}
 use Rattle.game_text.proofs.Guards.{IsAfter, within-ok, within-to, discount_within-ok, discount_within-to, total_within-ok, total_within-to, next_triple-ok, next_triple-to, full_row-ok, full_row-none, full_row-to, narrow_reward-ok, narrow_reward-to, later_pair-ok, later_pair-to, fits_row-ok, fits_row-to}
 
@@ -60,7 +61,7 @@ pub record SizeFits (s a c o : ℕ) : Type 0 where
 pub record DiscountFits (over under : ℤ) : Type 0 where
   pub low : pos 0 ≤ℤ over
   pub less : over <ℤ under
-  pub high : under ≤ℤ pos most_weight
+  pub high : under ≤ℤ pos most_discount
 
 printed_one : signed_decimal (pos 1) ≡ codes "1"
 printed_one = decimal_digit 1 (omega arith)
@@ -118,22 +119,22 @@ size-to s a c o f =
     rw (numbers_after-to kinds.Shape kinds.Number (codes "size") 4 (numbers_in (Size s a c o)) refl small)
     (rw (within-to 1 16 s f.states.0 f.states.1, within-to 1 6 a f.own_actions.0 f.own_actions.1, within-to 1 6 c f.informed_actions.0 f.informed_actions.1, within-to 1 8 o f.observations.0 f.observations.1) refl)
 
-pub total-ok : (line : Line) (e : Entry) → total_said line ≡ Ok e → (total : ℤ) × (e ≡ Total total) × (line ≡ words_in (Total total)) × IsWithin (pos 1) (pos most_total) total
+pub total-ok : (line : Line) (e : Entry) → total_said line ≡ Ok e → (total : ℤ) × (e ≡ Total total) × (line ≡ words_in (Total total)) × IsWithin (pos 1) (pos most_row_total) total
 unfolding total_said
 total-ok line e h =
     let p = bind_ok (numbers_after (codes "total") 1 line) _ e h in
     let ns = p.0 in
-    let t = bind_ok (limited kinds.Range (pos 1) (pos most_total) (number_at ns 0)) _ e p.2 in
+    let t = bind_ok (limited kinds.Range (pos 1) (pos most_row_total) (number_at ns 0)) _ e p.2 in
     let w = numbers_after-ok kinds.Shape kinds.Number (codes "total") 1 line ns p.1 in
-    let t' = limited-ok kinds.Range (pos 1) (pos most_total) (number_at ns 0) t.0 t.1 in
+    let t' = limited-ok kinds.Range (pos 1) (pos most_row_total) (number_at ns 0) t.0 t.1 in
     let all = one_is ns t.0 w.1 t'.1 in
     (t.0, said_is (Total t.0) e t.2, w.0 ∙ ap (numbered (codes "total")) all, t'.0)
 
-pub total-to : (total : ℤ) → IsWithin (pos 1) (pos most_total) total → total_said (words_in (Total total)) ≡ Ok (Total total)
+pub total-to : (total : ℤ) → IsWithin (pos 1) (pos most_row_total) total → total_said (words_in (Total total)) ≡ Ok (Total total)
 unfolding total_said
 total-to total f =
-    let small : AllByRecursion Small (total ∷ []) = (small_within (pos 1) (pos most_total) total (omega arith) (omega arith) f, tt) in
-    rw (numbers_after-to kinds.Shape kinds.Number (codes "total") 1 (total ∷ []) refl small) (rw (limited-to kinds.Range (pos 1) (pos most_total) total f) refl)
+    let small : AllByRecursion Small (total ∷ []) = (small_within (pos 1) (pos most_row_total) total (omega arith) (omega arith) f, tt) in
+    rw (numbers_after-to kinds.Shape kinds.Number (codes "total") 1 (total ∷ []) refl small) (rw (limited-to kinds.Range (pos 1) (pos most_row_total) total f) refl)
 
 pub discount-ok : (line : Line) (e : Entry) → discount_said line ≡ Ok e → (over : ℤ) × (under : ℤ) × (e ≡ Discount over under) × (line ≡ words_in (Discount over under)) × DiscountFits over under
 unfolding discount_said
@@ -153,8 +154,8 @@ discount-ok line e h =
 
 pub small_discount : (over under : ℤ) → DiscountFits over under → Small over × Small under
 small_discount over under f = (
-  small_within (pos 0) (pos most_weight) over (omega arith) (omega arith) (f.low, omega (arith, ints, f.less, f.high)),
-  small_within (pos 0) (pos most_weight) under (omega arith) (omega arith) (omega (arith, ints, f.low, f.less), f.high),
+  small_within (pos 0) (pos most_discount) over (omega arith) (omega arith) (f.low, omega (arith, ints, f.less, f.high)),
+  small_within (pos 0) (pos most_discount) under (omega arith) (omega arith) (omega (arith, ints, f.low, f.less), f.high),
 )
 
 pub discount-to : (over under : ℤ) → DiscountFits over under → discount_said (words_in (Discount over under)) ≡ Ok (Discount over under)
@@ -169,20 +170,20 @@ unfolding first_said
 first-ok states line e h =
     let p = bind_ok (numbers_after (codes "first") states line) _ e h in
     let ns = p.0 in
-    let a = bind_ok (each_within kinds.Range (pos 0) (pos most_weight) ns) _ e p.2 in
+    let a = bind_ok (each_within kinds.Range (pos 0) (pos most_belief) ns) _ e p.2 in
     let b = bind_ok (total_within ns) _ e a.2 in
     let w = numbers_after-ok kinds.Shape kinds.Number (codes "first") states line ns p.1 in
-    (ns, said_is (First ns) e b.2, w.0, record { long = w.1; each = each_within-ok kinds.Range (pos 0) (pos most_weight) ns a.0 a.1; sums = total_within-ok ns b.0 b.1 })
+    (ns, said_is (First ns) e b.2, w.0, record { long = w.1; each = each_within-ok kinds.Range (pos 0) (pos most_belief) ns a.0 a.1; sums = total_within-ok ns b.0 b.1 })
 
-pub small_weights : (weights : List ℤ) → AllByRecursion (IsWithin (pos 0) (pos most_weight)) weights → AllByRecursion Small weights
+pub small_weights : (weights : List ℤ) → AllByRecursion (IsWithin (pos 0) (pos most_belief)) weights → AllByRecursion Small weights
 small_weights [] h = tt
-small_weights (x ∷ weights) h = (small_within (pos 0) (pos most_weight) x (omega arith) (omega arith) h.0, small_weights weights h.1)
+small_weights (x ∷ weights) h = (small_within (pos 0) (pos most_belief) x (omega arith) (omega arith) h.0, small_weights weights h.1)
 
 pub first-to : (states : ℕ) (weights : List ℤ) → IsBelief states weights → first_said states (words_in (First weights)) ≡ Ok (First weights)
 unfolding first_said
 first-to states weights f =
     rw (numbers_after-to kinds.Shape kinds.Number (codes "first") states weights f.long (small_weights weights f.each))
-    (rw (each_within-to kinds.Range (pos 0) (pos most_weight) weights f.each) (rw (total_within-to weights f.sums) refl))
+    (rw (each_within-to kinds.Range (pos 0) (pos most_belief) weights f.each) (rw (total_within-to weights f.sums) refl))
 
 -- the lines of the rows
 
@@ -190,7 +191,7 @@ pub record StepFits (shape : Shape) (begun : ℕ) (sum : ℤ) (s a c : ℕ) (rew
   pub state : s < shape.states
   pub own : a < shape.own_actions
   pub informed : c < shape.informed_actions
-  pub range : IsWithin (neg_ℤ (pos most_total)) (pos most_total) reward
+  pub range : IsWithin (neg_ℤ (pos most_reward)) (pos most_reward) reward
   pub next_state : s ≡ state_at shape begun
   pub next_own : a ≡ own_at shape begun
   pub next_informed : c ≡ informed_at shape begun
@@ -213,7 +214,7 @@ step-ok shape begun sum line e h =
     let s = bind_ok (below_limit kinds.Range shape.states (number_at ns 0)) _ e p.2 in
     let a = bind_ok (below_limit kinds.Range shape.own_actions (number_at ns 1)) _ e s.2 in
     let c = bind_ok (below_limit kinds.Range shape.informed_actions (number_at ns 2)) _ e a.2 in
-    let r = bind_ok (limited kinds.Range (neg_ℤ (pos most_total)) (pos most_total) (number_at ns 3)) _ e c.2 in
+    let r = bind_ok (limited kinds.Range (neg_ℤ (pos most_reward)) (pos most_reward) (number_at ns 3)) _ e c.2 in
     let n = bind_ok (next_triple shape begun s.0 a.0 c.0) _ e r.2 in
     let f = bind_ok (full_row shape begun sum) _ e n.2 in
     let k = bind_ok (narrow_reward shape r.0) _ e f.2 in
@@ -221,7 +222,7 @@ step-ok shape begun sum line e h =
     let s' = below_limit-ok kinds.Range shape.states (number_at ns 0) s.0 s.1 in
     let a' = below_limit-ok kinds.Range shape.own_actions (number_at ns 1) a.0 a.1 in
     let c' = below_limit-ok kinds.Range shape.informed_actions (number_at ns 2) c.0 c.1 in
-    let r' = limited-ok kinds.Range (neg_ℤ (pos most_total)) (pos most_total) (number_at ns 3) r.0 r.1 in
+    let r' = limited-ok kinds.Range (neg_ℤ (pos most_reward)) (pos most_reward) (number_at ns 3) r.0 r.1 in
     let n' = next_triple-ok shape begun s.0 a.0 c.0 n.0 n.1 in
     let all = four_are ns (pos s.0) (pos a.0) (pos c.0) r.0 w.1 s'.1 a'.1 c'.1 r'.1 in (
       s.0,
@@ -255,13 +256,13 @@ pub step-to : (shape : Shape) (begun : ℕ) (sum : ℤ) (s a c : ℕ) (reward : 
 unfolding step_said
 step-to shape begun sum s a c reward limits f =
     let small : AllByRecursion Small (pos s ∷ pos a ∷ pos c ∷ reward ∷ []) =
-    (omega (arith, f.state, limits.states), (omega (arith, f.own, limits.own_actions), (omega (arith, f.informed, limits.informed_actions), (small_within (neg_ℤ (pos most_total)) (pos most_total) reward (omega arith) (omega arith) f.range, tt)))) in
+    (omega (arith, f.state, limits.states), (omega (arith, f.own, limits.own_actions), (omega (arith, f.informed, limits.informed_actions), (small_within (neg_ℤ (pos most_reward)) (pos most_reward) reward (omega arith) (omega arith) f.range, tt)))) in
     rw (numbers_after-to kinds.Shape kinds.Number (codes "step") 4 (pos s ∷ pos a ∷ pos c ∷ reward ∷ []) refl small)
     (rw (
       below_limit-to kinds.Range shape.states s f.state,
       below_limit-to kinds.Range shape.own_actions a f.own,
       below_limit-to kinds.Range shape.informed_actions c f.informed,
-      limited-to kinds.Range (neg_ℤ (pos most_total)) (pos most_total) reward f.range,
+      limited-to kinds.Range (neg_ℤ (pos most_reward)) (pos most_reward) reward f.range,
       next_is shape begun s a c f.next_state f.next_own f.next_informed,
       full_is shape begun sum f.full,
       narrow_reward-to shape reward f.narrow,
@@ -296,7 +297,7 @@ out-ok shape sum pair line e h =
     )
 
 pub small_weight : (shape : Shape) (x : ℤ) → IsShape shape → IsWithin (pos 1) shape.row_total x → Small x
-small_weight shape x limits h = small_within (pos 1) (pos most_total) x (omega arith) (omega arith) (h.0, omega (arith, ints, h.1, limits.row_total.1))
+small_weight shape x limits h = small_within (pos 1) (pos most_row_total) x (omega arith) (omega arith) (h.0, omega (arith, ints, h.1, limits.row_total.1))
 
 pub out-to : (shape : Shape) (sum : ℤ) (pair : Option (ℕ × ℕ)) (l : Landing) → IsShape shape → OutFits shape sum pair l → out_said shape sum pair (words_in (Out l)) ≡ Ok (Out l)
 unfolding out_said

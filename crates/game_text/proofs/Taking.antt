@@ -9,11 +9,11 @@ use Rattle.game_model.specs.declared.parts.Shape.{Shape}
 use Rattle.game_model.specs.declared.parts.Landing.{Landing}
 use Rattle.game_model.specs.Game.{GameData, IsShape, IsBelief, IsBefore, row_sum}
 use Rattle.game_model.specs.Build.{HasRoom, IsLastRowFull, IsNext, last_landing, landing_of}
-use Rattle.game_text.specs.declared.place.RowEntry.{RowEntry}
-use Rattle.game_text.specs.declared.place.RowEntry.TheVariants as row
+use Rattle.game_text.specs.declared.progress.RowEntry.{RowEntry}
+use Rattle.game_text.specs.declared.progress.RowEntry.TheVariants as row
 use Rattle.game_text.specs.declared.header.Header.{Header}
 use Rattle.game_text.specs.Entries.{Entry, End, shape_in}
-use Rattle.game_text.specs.Place.{entry_in, said}
+use Rattle.game_text.specs.Progress.{entry_in, said}
 use Rattle.game_text.specs.Header.{said_by}
 use Rattle.game_text.specs.Built.{rewards_in, rows_in, IsBuilt, IsEnded, Takes}
 use Rattle.game_text.proofs.Runs.{AfterHead, Run, Front, front, Good, IsFullBack, step_front, step_fits, out_front, out_fits, IsStep, IsOut, open_before, open_row, shape_spelled, header_front}

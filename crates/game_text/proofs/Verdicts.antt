@@ -1,12 +1,13 @@
 -- What the numbers of a line of each form give: what the line says, or the least kind whose rule they break.
 use Rattle.std.proofs.Common.{◌≡◌, ℕ, ◌+◌, ◌<◌, ◌≤◌, List, Option, Result, Ok, Err, ℤ, pos, refl, sym, subst, arith, inl, inr}
+use Rattle.game_model.specs.Limits.{most_belief, most_reward, most_row_total}
 use Rattle.std.specs.Prelude.{neg_ℤ, unsigned_abs}
 use Rattle.text_words.specs.Forms.{◌>>=◌, number_at, limited, below_limit, each_within}
 use Rattle.text_words.proofs.Chains.{Tests, limited-tests, below_limit-tests, each_within-tests}
 use Rattle.game_text.specs.declared.fault.Kind.{Kind}
 use Rattle.game_text.specs.declared.fault.Kind.TheVariants as kinds
 use Rattle.game_text.specs.Fault.{number_of_kind}
-use Rattle.game_text.specs.Forms.{within, most_total, most_weight, discount_within, total_within, next_triple, full_row, narrow_reward, later_pair, fits_row}
+use Rattle.game_text.specs.Forms.{within, discount_within, total_within, next_triple, full_row, narrow_reward, later_pair, fits_row}
 use Rattle.game_text.specs.Entries.{Entry, Size, Total, Discount, First, Step, Out, End, shape_in, begun_in, sum_in}
 use Rattle.game_text.specs.Due.{Form, SizeLine, TotalLine, DiscountLine, FirstLine, StepLine, OutLine, EndLine, landing_in, entry_in}
 use Rattle.game_text.specs.Rules.{AreStep, IsNextTriple, AreOut, IsLater, Rule}
@@ -117,17 +118,17 @@ size_checked before ns =
     (λ n. fails_range before SizeLine ns (λ r. n r.own_actions)))
     (λ n. fails_range before SizeLine ns (λ r. n r.states))
 
-pub total_checked : (before : List Entry) (ns : List ℤ) → Checked before TotalLine ns (limited kinds.Range (pos 1) (pos most_total) (number_at ns 0) >>= (λ total. Ok (Total total)))
+pub total_checked : (before : List Entry) (ns : List ℤ) → Checked before TotalLine ns (limited kinds.Range (pos 1) (pos most_row_total) (number_at ns 0) >>= (λ total. Ok (Total total)))
 total_checked before ns =
-    chain before TotalLine ns _ (limited-tests kinds.Range (pos 1) (pos most_total) (number_at ns 0)) (λ h. (refl, all_kept before TotalLine ns h tt tt tt tt)) (λ n. fails_range before TotalLine ns n)
+    chain before TotalLine ns _ (limited-tests kinds.Range (pos 1) (pos most_row_total) (number_at ns 0)) (λ h. (refl, all_kept before TotalLine ns h tt tt tt tt)) (λ n. fails_range before TotalLine ns n)
 
 pub discount_checked : (before : List Entry) (ns : List ℤ) → Checked before DiscountLine ns (discount_within (number_at ns 0) (number_at ns 1) >>= (λ d. Ok (Discount d.0 d.1)))
 discount_checked before ns =
     chain before DiscountLine ns _ (discount-tests (number_at ns 0) (number_at ns 1)) (λ h. (refl, all_kept before DiscountLine ns h tt tt tt tt)) (λ n. fails_range before DiscountLine ns n)
 
-pub first_checked : (before : List Entry) (ns : List ℤ) → Checked before FirstLine ns (each_within kinds.Range (pos 0) (pos most_weight) ns >>= (λ u. total_within ns >>= (λ v. Ok (First ns))))
+pub first_checked : (before : List Entry) (ns : List ℤ) → Checked before FirstLine ns (each_within kinds.Range (pos 0) (pos most_belief) ns >>= (λ u. total_within ns >>= (λ v. Ok (First ns))))
 first_checked before ns =
-    chain before FirstLine ns _ (each_within-tests kinds.Range (pos 0) (pos most_weight) ns)
+    chain before FirstLine ns _ (each_within-tests kinds.Range (pos 0) (pos most_belief) ns)
     (λ h. chain before FirstLine ns _ (total-tests ns)
     (λ t. (refl, all_kept before FirstLine ns h tt tt t tt))
     (λ n. fails_belief before FirstLine ns n h tt tt))
@@ -136,14 +137,14 @@ first_checked before ns =
 pub step_checked : (before : List Entry) (ns : List ℤ)
     → Checked before StepLine ns
     (below_limit kinds.Range (shape_in before).states (number_at ns 0) >>= (λ s. below_limit kinds.Range (shape_in before).own_actions (number_at ns 1) >>= (λ a. below_limit kinds.Range (shape_in before).informed_actions (number_at ns 2) >>= (λ c.
-    limited kinds.Range (neg_ℤ (pos most_total)) (pos most_total) (number_at ns 3) >>= (λ reward. next_triple (shape_in before) (begun_in before) s a c >>= (λ u. full_row (shape_in before) (begun_in before) (sum_in before) >>= (λ v.
+    limited kinds.Range (neg_ℤ (pos most_reward)) (pos most_reward) (number_at ns 3) >>= (λ reward. next_triple (shape_in before) (begun_in before) s a c >>= (λ u. full_row (shape_in before) (begun_in before) (sum_in before) >>= (λ v.
     narrow_reward (shape_in before) reward >>= (λ w. Ok (Step s a c reward)))))))))
 step_checked before ns =
     let sh = shape_in before in
     chain before StepLine ns _ (below_limit-tests kinds.Range sh.states (number_at ns 0))
     (λ s. chain before StepLine ns _ (below_limit-tests kinds.Range sh.own_actions (number_at ns 1))
     (λ a. chain before StepLine ns _ (below_limit-tests kinds.Range sh.informed_actions (number_at ns 2))
-    (λ c. chain before StepLine ns _ (limited-tests kinds.Range (neg_ℤ (pos most_total)) (pos most_total) (number_at ns 3))
+    (λ c. chain before StepLine ns _ (limited-tests kinds.Range (neg_ℤ (pos most_reward)) (pos most_reward) (number_at ns 3))
     (λ reward.
     (let range : AreStep before ns = record { state = s; own = a; informed = c; reward = reward } in
     chain before StepLine ns _ (triple-tests sh (begun_in before) (unsigned_abs (number_at ns 0)) (unsigned_abs (number_at ns 1)) (unsigned_abs (number_at ns 2)))

@@ -4,8 +4,8 @@ use Rattle.text_words.specs.Lines.{Line, lines_of, after_lines}
 use Rattle.game_model.specs.declared.parts.Landing.{Landing}
 use Rattle.game_model.specs.Game.{GameData, IsRewardInRange, IsNarrow, IsLanding}
 use Rattle.game_model.specs.Build.{HasRoom, HasWeightLeft, IsBegun, IsLastRowFull, IsMultiple, IsNext, last_row, with_landing, with_step}
-use Rattle.game_text.specs.declared.place.RowEntry.{RowEntry}
-use Rattle.game_text.specs.declared.place.RowEntry.TheVariants as row
+use Rattle.game_text.specs.declared.progress.RowEntry.{RowEntry}
+use Rattle.game_text.specs.declared.progress.RowEntry.TheVariants as row
 use Rattle.game_text.specs.Entries.{Entry, Step, Out, End, shape_in}
 use Rattle.game_text.specs.Steps.{Say, ReadsAll}
 

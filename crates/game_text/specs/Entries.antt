@@ -1,5 +1,6 @@
 -- What a line says after those before it, found by looking back.
 use Rattle.std.specs.Prelude.{ℕ, ◌+◌, ◌==◌, List, [], ◌∷◌, Option, Some, None, Result, Ok, Err, ℤ, pos, ◌+ℤ◌, neg_ℤ, if◌then◌else◌, codes}
+use Rattle.game_model.specs.Limits.{most_actions, most_belief, most_observations, most_reward, most_row_total, most_states}
 use Rattle.text_words.specs.Lines.{Line}
 use Rattle.text_words.specs.Forms.{◌>>=◌, number_at, begins, limited, below_limit, each_within}
 use Rattle.game_model.specs.declared.parts.Shape.{Shape}
@@ -7,7 +8,7 @@ use Rattle.game_model.specs.declared.parts.Landing.{Landing}
 use Rattle.game_model.specs.Game.{triples}
 use Rattle.game_text.specs.declared.fault.Kind.{Kind}
 use Rattle.game_text.specs.declared.fault.Kind.TheVariants as kinds
-use Rattle.game_text.specs.Forms.{within, numbers_after, version_line, most_total, most_weight, discount_within, total_within, next_triple, full_row, narrow_reward, later_pair, fits_row}
+use Rattle.game_text.specs.Forms.{within, numbers_after, version_line, discount_within, total_within, next_triple, full_row, narrow_reward, later_pair, fits_row}
 
 -- what a line says
 pub data Entry : Type 0 where
@@ -54,16 +55,16 @@ version_said line = do
 unfoldable pub size_said : Line → Result Entry Kind
 size_said line = do
   ns ← numbers_after (codes "size") 4 line
-  states ← within 1 16 (number_at ns 0)
-  own_actions ← within 1 6 (number_at ns 1)
-  informed_actions ← within 1 6 (number_at ns 2)
-  observations ← within 1 8 (number_at ns 3)
+  states ← within 1 most_states (number_at ns 0)
+  own_actions ← within 1 most_actions (number_at ns 1)
+  informed_actions ← within 1 most_actions (number_at ns 2)
+  observations ← within 1 most_observations (number_at ns 3)
   Ok (Size states own_actions informed_actions observations)
 
 unfoldable pub total_said : Line → Result Entry Kind
 total_said line = do
   ns ← numbers_after (codes "total") 1 line
-  total ← limited kinds.Range (pos 1) (pos most_total) (number_at ns 0)
+  total ← limited kinds.Range (pos 1) (pos most_row_total) (number_at ns 0)
   Ok (Total total)
 
 unfoldable pub discount_said : Line → Result Entry Kind
@@ -75,7 +76,7 @@ discount_said line = do
 unfoldable pub first_said : ℕ → Line → Result Entry Kind
 first_said states line = do
   ns ← numbers_after (codes "first") states line
-  _ ← each_within kinds.Range (pos 0) (pos most_weight) ns
+  _ ← each_within kinds.Range (pos 0) (pos most_belief) ns
   _ ← total_within ns
   Ok (First ns)
 
@@ -86,7 +87,7 @@ step_said shape begun sum line = do
   s ← below_limit kinds.Range shape.states (number_at ns 0)
   a ← below_limit kinds.Range shape.own_actions (number_at ns 1)
   c ← below_limit kinds.Range shape.informed_actions (number_at ns 2)
-  reward ← limited kinds.Range (neg_ℤ (pos most_total)) (pos most_total) (number_at ns 3)
+  reward ← limited kinds.Range (neg_ℤ (pos most_reward)) (pos most_reward) (number_at ns 3)
   _ ← next_triple shape begun s a c
   _ ← full_row shape begun sum
   _ ← narrow_reward shape reward

@@ -1,5 +1,6 @@
 -- What the words and numbers of one line say, or the least kind of fault.
 use Rattle.std.specs.Prelude.{ℕ, ◌/◌, ◌%◌, ◌^◌, ◌==◌, nat_lt, max, ◌&&◌, ◌||◌, List, [], ◌∷◌, Option, Some, None, Result, Ok, Err, ℤ, pos, ◌+ℤ◌, ◌*ℤ◌, int_lt, int_le, unsigned_abs, if◌then◌else◌, codes}
+use Rattle.game_model.specs.Limits.{most_belief, most_discount, most_width}
 use Rattle.std.specs.Str.{bytes_eq}
 use Rattle.scaled_num.specs.Sums.{sum_of}
 use Rattle.text_words.specs.Lines.{Line, Word}
@@ -25,21 +26,14 @@ version_line (name ∷ number ∷ []) =
     if bytes_eq name (codes "osposg") && bytes_eq number (codes "1") then Ok tt else Err kinds.Version
 version_line (name ∷ number ∷ more ∷ words) = Err kinds.Version
 
--- the greatest row total and magnitude of a reward, and the greatest weight of a first belief
-abbrev pub most_total : ℕ
-most_total = 1073741824
-
-abbrev pub most_weight : ℕ
-most_weight = 1048576
-
 -- a discount: 0 <= over < under <= 2^20
 unfoldable pub discount_within : ℤ → ℤ → Result (ℤ × ℤ) Kind
 discount_within over under =
-    if int_le (pos 0) over && int_lt over under && int_le under (pos most_weight) then Ok (over, under) else Err kinds.Range
+    if int_le (pos 0) over && int_lt over under && int_le under (pos most_discount) then Ok (over, under) else Err kinds.Range
 
 -- the total of the first belief is in its limits
 unfoldable pub total_within : List ℤ → Result (Unit {0}) Kind
-total_within weights = if is_within (pos 1) (pos most_weight) (sum_of weights) then Ok tt else Err kinds.Belief
+total_within weights = if is_within (pos 1) (pos most_belief) (sum_of weights) then Ok tt else Err kinds.Belief
 
 -- the triple of this number, in rising order
 abbrev pub state_at : Shape → ℕ → ℕ
@@ -64,7 +58,7 @@ full_row shape begun sum =
 -- the width rule: D * Q * Q * max(1, |r|) <= 2^72
 unfoldable pub narrow_reward : Shape → ℤ → Result (Unit {0}) Kind
 narrow_reward shape reward =
-    if int_le (shape.row_total *ℤ shape.discount.1 *ℤ shape.discount.1 *ℤ pos (max 1 (unsigned_abs reward))) (pos (2 ^ 72)) then Ok tt else Err kinds.Wide
+    if int_le (shape.row_total *ℤ shape.discount.1 *ℤ shape.discount.1 *ℤ pos (max 1 (unsigned_abs reward))) (pos most_width) then Ok tt else Err kinds.Wide
 
 -- the pair is greater than that of the `out` line just before, where there is one
 unfoldable pub later_pair : Option (ℕ × ℕ) → ℕ → ℕ → Result (Unit {0}) Kind

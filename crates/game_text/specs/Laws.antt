@@ -1,13 +1,13 @@
 -- What makes acceptance and refusal exact.
 use Rattle.std.specs.Prelude.{◌≡◌, ◌⊎◌, ℕ, List, [], ◌++◌}
 use Rattle.text_words.specs.Lines.{Line, lines_of, after_lines}
-use Rattle.game_model.specs.Game.{GameData}
+use Rattle.game_model.specs.Game.{GameData, IsGame}
 use Rattle.game_text.specs.declared.fault.Kind.{Kind}
-use Rattle.game_text.specs.Text.{IsTextOf}
+use Rattle.game_text.specs.Text.{IsTextOf, canonical_text}
 use Rattle.game_text.specs.Entries.{Entry}
 use Rattle.game_text.specs.Reading.{Accepts, Refuses, RefusesAlone}
 
--- a text is of one game, and ends at one place
+-- a text is of one game, and ends at one offset
 abbrev pub TextsAreGames : Type 0
 TextsAreGames =
     (text rest : List ℕ) (g h : GameData) (other : List ℕ) →
@@ -56,3 +56,7 @@ Decided =
 -- bytes are a text of a game, or are refused alone
 abbrev pub DecidedAlone : Type 0
 DecidedAlone = (text : List ℕ) → ((g : GameData) × IsTextOf g text []) ⊎ ((number : ℕ) × (kind : Kind) × RefusesAlone text number kind)
+
+-- the canonical text of a game is a text of it
+abbrev pub CanonicalTexts : Type 0
+CanonicalTexts = (g : GameData) → IsGame g → IsTextOf g (canonical_text g) []

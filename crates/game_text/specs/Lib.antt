@@ -7,7 +7,7 @@ pub mod Rules
 pub mod Reading
 pub mod Steps
 pub mod Laws
-pub mod Place
+pub mod Progress
 pub mod Header
 pub mod Limits
 pub mod Answers

@@ -1,5 +1,6 @@
 -- What each line of a game text must keep, and which kinds of fault apply to a line behind those before it.
 use Rattle.std.specs.Prelude.{◌≡◌, ◌≢◌, ◌⊎◌, ℕ, ◌<◌, ◌^◌, max, List, [], ◌∷◌, ℤ, pos, neg_ℤ, ◌+ℤ◌, ◌*ℤ◌, ◌≤ℤ◌, ◌<ℤ◌, unsigned_abs, codes, ⊤}
+use Rattle.game_model.specs.Limits.{most_actions, most_belief, most_discount, most_observations, most_reward, most_row_total, most_states, most_width}
 use Rattle.std.specs.List.{AllByRecursion}
 use Rattle.scaled_num.specs.Sums.{sum_of}
 use Rattle.text_words.specs.Lines.{Line}
@@ -9,7 +10,7 @@ use Rattle.game_model.specs.Game.{IsWithin}
 use Rattle.game_text.specs.declared.fault.Kind.{Kind}
 use Rattle.game_text.specs.declared.fault.Kind.TheVariants as kinds
 use Rattle.game_text.specs.Fault.{number_of_kind}
-use Rattle.game_text.specs.Forms.{most_total, most_weight, state_at, own_at, informed_at}
+use Rattle.game_text.specs.Forms.{state_at, own_at, informed_at}
 use Rattle.game_text.specs.Entries.{Entry, Out, shape_in, begun_in, sum_in}
 use Rattle.game_text.specs.Due.{Form, SizeLine, TotalLine, DiscountLine, FirstLine, StepLine, OutLine, EndLine, due, IsOneOf, IsOf, SayNumbers, landing_in, entry_in}
 
@@ -18,16 +19,16 @@ abbrev pub IsBelow : ℕ → ℤ → Type 0
 IsBelow limit n = (pos 0 ≤ℤ n) × (n <ℤ pos limit)
 
 pub record AreSizes (ns : List ℤ) : Type 0 where
-  pub states : IsWithin (pos 1) (pos 16) (number_at ns 0)
-  pub own_actions : IsWithin (pos 1) (pos 6) (number_at ns 1)
-  pub informed_actions : IsWithin (pos 1) (pos 6) (number_at ns 2)
-  pub observations : IsWithin (pos 1) (pos 8) (number_at ns 3)
+  pub states : IsWithin (pos 1) (pos most_states) (number_at ns 0)
+  pub own_actions : IsWithin (pos 1) (pos most_actions) (number_at ns 1)
+  pub informed_actions : IsWithin (pos 1) (pos most_actions) (number_at ns 2)
+  pub observations : IsWithin (pos 1) (pos most_observations) (number_at ns 3)
 
 pub record AreStep (before : List Entry) (ns : List ℤ) : Type 0 where
   pub state : IsBelow (shape_in before).states (number_at ns 0)
   pub own : IsBelow (shape_in before).own_actions (number_at ns 1)
   pub informed : IsBelow (shape_in before).informed_actions (number_at ns 2)
-  pub reward : IsWithin (neg_ℤ (pos most_total)) (pos most_total) (number_at ns 3)
+  pub reward : IsWithin (neg_ℤ (pos most_reward)) (pos most_reward) (number_at ns 3)
 
 -- the triple is the next one, in rising order
 pub record IsNextTriple (before : List Entry) (ns : List ℤ) : Type 0 where
@@ -52,16 +53,16 @@ IsRowFull before = (begun_in before ≡ 0) ⊎ (sum_in before ≡ (shape_in befo
 -- the width rule: D * Q * Q * max(1, |r|) <= 2^72
 abbrev pub IsNarrow : List Entry → ℤ → Type 0
 IsNarrow before reward =
-    ((shape_in before).row_total *ℤ (shape_in before).discount.1 *ℤ (shape_in before).discount.1 *ℤ pos (max 1 (unsigned_abs reward))) ≤ℤ pos (2 ^ 72)
+    ((shape_in before).row_total *ℤ (shape_in before).discount.1 *ℤ (shape_in before).discount.1 *ℤ pos (max 1 (unsigned_abs reward))) ≤ℤ pos most_width
 
 -- What the numbers of a line of this form must keep: where they do not, this kind applies.
 abbrev pub Rule : List Entry → Form → Kind → List ℤ → Type 0
 Rule before SizeLine kinds.Range ns = AreSizes ns
-Rule before TotalLine kinds.Range ns = IsWithin (pos 1) (pos most_total) (number_at ns 0)
+Rule before TotalLine kinds.Range ns = IsWithin (pos 1) (pos most_row_total) (number_at ns 0)
 Rule before DiscountLine kinds.Range ns =
-    (pos 0 ≤ℤ number_at ns 0) × (number_at ns 0 <ℤ number_at ns 1) × (number_at ns 1 ≤ℤ pos most_weight)
-Rule before FirstLine kinds.Range ns = AllByRecursion (IsWithin (pos 0) (pos most_weight)) ns
-Rule before FirstLine kinds.Belief ns = IsWithin (pos 1) (pos most_weight) (sum_of ns)
+    (pos 0 ≤ℤ number_at ns 0) × (number_at ns 0 <ℤ number_at ns 1) × (number_at ns 1 ≤ℤ pos most_discount)
+Rule before FirstLine kinds.Range ns = AllByRecursion (IsWithin (pos 0) (pos most_belief)) ns
+Rule before FirstLine kinds.Belief ns = IsWithin (pos 1) (pos most_belief) (sum_of ns)
 Rule before StepLine kinds.Range ns = AreStep before ns
 Rule before StepLine kinds.Order ns = IsNextTriple before ns
 Rule before StepLine kinds.Total ns = IsRowFull before

@@ -1,7 +1,7 @@
 -- How the reader goes through a text: what it reads line by line, and where it stops.
 use Rattle.std.specs.Prelude.{◌≡◌, ◌⊎◌, ℕ, ◌+◌, ◌<◌, List, [], ◌∷◌, ◌++◌, reverse, length, Result, Ok, Err, ⊤}
 use Rattle.text_words.specs.Lines.{Line, lines_of, after_lines}
-use Rattle.text_words.specs.Forms.{◌>>=◌}
+use Rattle.text_words.specs.Forms.{◌>>=◌, first_of}
 use Rattle.game_text.specs.declared.fault.Kind.{Kind}
 use Rattle.game_text.specs.declared.fault.Kind.TheVariants as kinds
 use Rattle.game_text.specs.declared.fault.TextFault.{TextFault}
@@ -16,15 +16,10 @@ Say [] (entry ∷ entries) = ⊥
 Say (line ∷ lines) [] = ⊥
 Say (line ∷ lines) (entry ∷ entries) = (entry_of entries line ≡ Ok entry) × Say lines entries
 
--- the words of the first line, and the lines after it
-abbrev pub first_of : List Line → Result (Line × List Line) Kind
-first_of [] = Err kinds.Missing
-first_of (line ∷ lines) = Ok (line, lines)
-
 -- what the next line says, and the lines after it
 unfoldable pub line_at : List Entry → List Line → Result (Entry × List Line) Kind
 line_at before lines = do
-  next ← first_of lines
+  next ← first_of kinds.Missing lines
   entry ← entry_of before next.0
   Ok (entry, next.1)
 

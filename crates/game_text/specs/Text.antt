@@ -1,14 +1,9 @@
 -- The texts of a game, spelled out from its numbers.
 use Rattle.std.specs.Prelude.{ℕ, ◌*ℤ◌, ◌≤◌, ◌≡◌, List, [], ◌∷◌, ◌++◌, map, flat_map, ℤ, pos, codes}
-use Rattle.std.specs.Fmt.{signed_decimal}
 use Rattle.scaled_num.specs.Sums.{below}
-use Rattle.text_words.specs.Lines.{line_text}
+use Rattle.text_words.specs.Spelled.{line_of}
 use Rattle.game_model.specs.declared.parts.Landing.{Landing}
 use Rattle.game_model.specs.Game.{GameData, IsGame, IsBelief, reward_at, row_at}
-
--- a line: its first word, and its numbers
-abbrev pub line_of : List ℕ → List ℤ → List ℕ
-line_of name numbers = line_text (name ∷ map signed_decimal numbers)
 
 abbrev pub landing_line : Landing → List ℕ
 landing_line l = line_of (codes "out") (pos l.seen ∷ pos l.to ∷ l.weight ∷ [])
@@ -20,16 +15,27 @@ step_line s a c reward = line_of (codes "step") (pos s ∷ pos a ∷ pos c ∷ r
 abbrev pub row_text : GameData → ℕ → ℕ → ℕ → List ℕ
 row_text g s a c = step_line s a c (reward_at g s a c) ++ flat_map landing_line (row_at g s a c)
 
+-- the rows of a state and an own action, of all informed actions in rising order
+abbrev pub informed_text : GameData → ℕ → ℕ → List ℕ
+informed_text g s a = flat_map (λ c. row_text g s a c) (below g.shape.informed_actions)
+
+-- the rows of a state, of all own and informed actions, in rising order
+abbrev pub state_text : GameData → ℕ → List ℕ
+state_text g s = flat_map (λ a. informed_text g s a) (below g.shape.own_actions)
+
 -- the rows of all triples (s, a, c), in rising order
 abbrev pub rows_text : GameData → List ℕ
-rows_text g =
-    flat_map (λ s. flat_map (λ a. flat_map (λ c. row_text g s a c) (below g.shape.informed_actions)) (below g.shape.own_actions)) (below g.shape.states)
+rows_text g = flat_map (λ s. state_text g s) (below g.shape.states)
+
+-- the line of the sizes
+abbrev pub size_text : GameData → List ℕ
+size_text g = line_of (codes "size") (pos g.shape.states ∷ pos g.shape.own_actions ∷ pos g.shape.informed_actions ∷ pos g.shape.observations ∷ [])
 
 -- the lines before the rows, of which the last has these numbers
 abbrev pub header_text : GameData → List ℤ → List ℕ
 header_text g first =
     line_of (codes "osposg") (pos 1 ∷ [])
-    ++ (line_of (codes "size") (pos g.shape.states ∷ pos g.shape.own_actions ∷ pos g.shape.informed_actions ∷ pos g.shape.observations ∷ [])
+    ++ (size_text g
     ++ (line_of (codes "total") (g.shape.row_total ∷ [])
     ++ (line_of (codes "discount") (g.shape.discount.0 ∷ g.shape.discount.1 ∷ [])
     ++ line_of (codes "first") first)))
@@ -37,6 +43,10 @@ header_text g first =
 -- the text of a game whose `first` line has these numbers
 abbrev pub text_of : GameData → List ℤ → List ℕ
 text_of g first = header_text g first ++ (rows_text g ++ line_of (codes "end") [])
+
+-- the canonical text of a game: its first belief is the coprime one
+abbrev pub canonical_text : GameData → List ℕ
+canonical_text g = text_of g g.first
 
 -- so many times the first belief
 abbrev pub scaled : ℕ → List ℤ → List ℤ

@@ -3,11 +3,11 @@ ghost use Rattle.std.specs.Prelude.{◌≡◌, IfErr, IfOk, OnOk};
 ghost use Rattle.game_text.specs.declared.fault.TextFault.TheVariants as texts;
 ghost use Rattle.game_text.specs.Built.{IsBuilt, IsEnded, IsSaid, Takes, with_entry};
 ghost use Rattle.game_text.specs.Header.{said_by};
-ghost use Rattle.game_text.specs.Place.{said};
+ghost use Rattle.game_text.specs.Progress.{said};
 
 use crate::fault::TextFault;
 use crate::header::Header;
-use crate::place::RowEntry;
+use crate::progress::RowEntry;
 use game_model::{Game, GameBuilder, GameFault};
 use std::alloc::Global;
 

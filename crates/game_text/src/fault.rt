@@ -1,11 +1,11 @@
 //! What is wrong with a line or a text of a game.
 ghost use Rattle.std.specs.Prelude.{◌≡◌, Ok, Err, MatchResult};
-ghost use Rattle.game_text.specs.declared.fault.LineFault.TheVariants.{OutOfMemory, Refused};
+ghost use Rattle.text_words.specs.declared.fault.LineFault.TheVariants.{Refused};
 ghost use Rattle.game_text.specs.declared.fault.TextFault.TheVariants as texts;
-ghost use Rattle.game_text.specs.Fault.{at_line, number_of_kind, of_numbers};
+ghost use Rattle.game_text.specs.Fault.{at_line, number_of_kind};
 
 use std::alloc::{AllocError, AllocFailed};
-use text_words::NumbersFault;
+use text_words::LineFault;
 use thiserror::Error;
 
 /// What is wrong with a line. The least kind that applies is reported.
@@ -53,46 +53,11 @@ impl Kind {
     }
 }
 
-/// Why a line could not be read.
-#[derive(Clone, Copy, Debug, PartialEq, Eq)]
-pub enum LineFault {
-    Refused(Kind),
-    OutOfMemory,
-}
-
-impl From<Kind> for LineFault {
+impl From<Kind> for LineFault<Kind> {
     ghost from_gives = { λ kind fault. fault ≡ Refused kind };
 
     fn from(kind: Kind) -> Self {
         LineFault::Refused(kind)
-    }
-}
-
-impl From<NumbersFault> for LineFault {
-    ghost from_gives = { λ fault line_fault. line_fault ≡ of_numbers fault };
-
-    fn from(fault: NumbersFault) -> Self {
-        match fault {
-            NumbersFault::Shape => LineFault::Refused(Kind::Shape),
-            NumbersFault::Number => LineFault::Refused(Kind::Number),
-            NumbersFault::OutOfMemory => LineFault::OutOfMemory,
-        }
-    }
-}
-
-impl From<AllocError> for LineFault {
-    ghost from_gives = { λ _ fault. fault ≡ OutOfMemory };
-
-    fn from(_: AllocError) -> Self {
-        LineFault::OutOfMemory
-    }
-}
-
-impl<T: Drop> From<AllocFailed<T>> for LineFault {
-    ghost from_gives = { λ _ fault. fault ≡ OutOfMemory };
-
-    fn from(_: AllocFailed<T>) -> Self {
-        LineFault::OutOfMemory
     }
 }
 
@@ -116,7 +81,7 @@ impl<T: Drop> From<AllocFailed<T>> for TextFault {
 }
 
 /// What was read of a line of this number.
-pub fn numbered<T>(read: Result<T, LineFault>, line: u32) -> Result<T, TextFault>
+pub fn numbered<T>(read: Result<T, LineFault<Kind>>, line: u32) -> Result<T, TextFault>
     ensures { MatchResult read (λ value. result ≡ Ok value) (λ fault. result ≡ Err (at_line fault line)) }
 {
     match read {

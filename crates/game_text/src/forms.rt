@@ -1,15 +1,17 @@
 //! The words and numbers of one line, and their limits.
-ghost use Rattle.std.specs.Prelude.{◌≡◌, ◌≤◌, length, map, IfOk, All, pos, ◌≤ℤ◌};
+ghost use Rattle.std.specs.Prelude.{◌≡◌, ◌≤◌, length, IfOk, All, pos, ◌≤ℤ◌};
+ghost use Rattle.text_words.specs.Lines.{line_in};
+ghost use Rattle.game_model.specs.Limits.{most_belief, most_states};
 ghost use Rattle.scaled_num.specs.Sums.{sum_of};
 ghost use Rattle.game_text.specs.Limits.{IsDiscount};
-ghost use Rattle.game_text.specs.Fault.{Gives};
+ghost use Rattle.text_words.specs.Fault.{Gives};
 ghost use Rattle.game_text.specs.Forms.{within, version_line, discount_within, total_within, numbers_after};
 
-use crate::fault::{Kind, LineFault};
+use crate::fault::Kind;
 use game_model::{MOST_BELIEF, MOST_DISCOUNT};
 use scaled_num::sum;
 use std::alloc::Global;
-use text_words::is_within;
+use text_words::{LineFault, is_within};
 
 /// The numbers of a line that has this first word and this many numbers.
 pub fn numbers_after(
@@ -17,17 +19,17 @@ pub fn numbers_after(
     words: &[&[u8]],
     name: &[u8],
     count: usize,
-) -> Result<Vec<i128>, LineFault>
-    ensures gives { Gives (λ numbers. numbers.items) result (numbers_after name.now count (map (λ word. word.now) words.now)) }
+) -> Result<Vec<i128>, LineFault<Kind>>
+    ensures gives { Gives (λ numbers. numbers.items) result (numbers_after name.now count (line_in words.now)) }
     ensures count { IfOk result (λ numbers. length numbers.items ≡ count) }
 {
-    Ok(text_words::numbers_after(alloc, words, name, count)?)
+    text_words::numbers_after(alloc, Kind::Shape, Kind::Number, words, name, count)
 }
 
 /// The line is `osposg 1`.
 #[tactic(auto, unfolding(crate::specs::Forms::version_line))]
 pub fn version(words: &[&[u8]]) -> Result<(), Kind>
-    ensures { result ≡ version_line (map (λ word. word.now) words.now) }
+    ensures { result ≡ version_line (line_in words.now) }
 {
     match words {
         [name, number] if *name == b"osposg".as_slice() && *number == b"1".as_slice() => Ok(()),
@@ -63,8 +65,8 @@ pub fn discount_within(over: i128, under: i128) -> Result<(i128, i128), Kind>
 /// The total of the weights is in its limits.
 #[tactic(auto, unfolding(crate::specs::Forms::total_within))]
 pub fn total_within(weights: &[i128]) -> Result<(), Kind>
-    requires few { length weights.now ≤ 16 }
-    requires small { All (λ n. (pos 0 ≤ℤ n) × (n ≤ℤ pos 1048576)) weights.now }
+    requires few { length weights.now ≤ most_states }
+    requires small { All (λ n. (pos 0 ≤ℤ n) × (n ≤ℤ pos most_belief)) weights.now }
     ensures { result ≡ total_within weights.now }
 {
     let total = sum(weights);

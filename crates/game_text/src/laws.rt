@@ -1,7 +1,13 @@
 //! Laws that make acceptance and refusal exact.
 ghost use Rattle.game_text.specs.Laws.{AnyRest, Decided, DecidedAlone, LinesAreTexts, RefusedOnce, TextsAreGames, TextsAreNotRefused, TextsAreRead, WholeTextsAreNotRefused};
+ghost use Rattle.game_text.specs.Laws.{CanonicalTexts};
 
-/// A law: a text is of one game, and ends at one place.
+/// A law: the canonical text of a game is a text of it.
+pub fn law_canonical()
+    ensures { CanonicalTexts }
+{}
+
+/// A law: a text is of one game, and ends at one offset.
 pub fn law_games()
     ensures { TextsAreGames }
 {}

@@ -7,13 +7,15 @@ mod fault;
 mod forms;
 mod header;
 mod laws;
-mod place;
+mod printing;
+mod progress;
 mod rows;
 mod texts;
 
 pub use fault::{Kind, TextFault};
 pub use laws::{
-    law_accepted, law_any_rest, law_decided, law_decided_alone, law_games, law_not_refused,
-    law_read, law_refused_once, law_whole_not_refused,
+    law_accepted, law_any_rest, law_canonical, law_decided, law_decided_alone, law_games,
+    law_not_refused, law_read, law_refused_once, law_whole_not_refused,
 };
+pub use printing::print;
 pub use texts::{read, read_alone};

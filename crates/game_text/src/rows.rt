@@ -1,17 +1,19 @@
 //! The lines of the rows.
-ghost use Rattle.std.specs.Prelude.{◌≡◌, ◌≤◌, ◌<◌, ◌^◌, length, map, IfOk, OnOk, pos, ◌≤ℤ◌, ◌+ℤ◌, ◌*ℤ◌, neg_ℤ, max, unsigned_abs};
+ghost use Rattle.std.specs.Prelude.{◌≡◌, ◌≤◌, ◌<◌, ◌^◌, length, IfOk, OnOk, pos, ◌≤ℤ◌, ◌+ℤ◌, ◌*ℤ◌, neg_ℤ, max, unsigned_abs};
+ghost use Rattle.text_words.specs.Lines.{line_in};
+ghost use Rattle.game_model.specs.Limits.{most_reward};
 ghost use Rattle.game_model.specs.Game.{IsShape, triples};
-ghost use Rattle.game_text.specs.Fault.{Gives};
+ghost use Rattle.text_words.specs.Fault.{Gives};
 ghost use Rattle.game_text.specs.Forms.{next_triple, full_row, narrow_reward, later_pair, fits_row};
 ghost use Rattle.game_text.specs.Entries.{step_said, out_said, end_said, row_end_said};
-ghost use Rattle.game_text.specs.Place.{IsPlace, FitsPlace, entry_in, pair_of, row_said};
+ghost use Rattle.game_text.specs.Progress.{IsProgress, FitsProgress, entry_in, pair_of, row_said};
 
-use crate::fault::{Kind, LineFault};
+use crate::fault::Kind;
 use crate::forms::numbers_after;
-use crate::place::{Latest, Place, RowEntry};
+use crate::progress::{Latest, Progress, RowEntry};
 use game_model::{Landing, MOST_REWARD, MOST_WIDTH, Shape};
 use std::alloc::Global;
-use text_words::{begins, below_limit, limited};
+use text_words::{LineFault, begins, below_limit, limited};
 
 /// The triple is the next one, where so many were begun.
 #[tactic(auto, unfolding(crate::specs::Forms::next_triple))]
@@ -44,8 +46,8 @@ fn full_row(shape: Shape, begun: u32, sum: i128) -> Result<(), Kind>
 /// The width of a reward: `D * Q * Q * max(1, |r|)`.
 fn width(shape: Shape, reward: i128) -> i128
     requires shape { IsShape shape }
-    requires low { (neg_ℤ (pos 1073741824)) ≤ℤ reward }
-    requires high { reward ≤ℤ pos 1073741824 }
+    requires low { (neg_ℤ (pos most_reward)) ≤ℤ reward }
+    requires high { reward ≤ℤ pos most_reward }
     ensures { result ≡ shape.row_total *ℤ shape.discount.1 *ℤ shape.discount.1 *ℤ pos (max 1 (unsigned_abs reward)) }
 {
     let under = shape.discount.1;
@@ -56,8 +58,8 @@ fn width(shape: Shape, reward: i128) -> i128
 #[tactic(auto, unfolding(crate::specs::Forms::narrow_reward))]
 fn narrow_reward(shape: Shape, reward: i128) -> Result<(), Kind>
     requires shape { IsShape shape }
-    requires low { (neg_ℤ (pos 1073741824)) ≤ℤ reward }
-    requires high { reward ≤ℤ pos 1073741824 }
+    requires low { (neg_ℤ (pos most_reward)) ≤ℤ reward }
+    requires high { reward ≤ℤ pos most_reward }
     ensures { result ≡ narrow_reward shape reward }
 {
     if width(shape, reward) > MOST_WIDTH {
@@ -79,33 +81,38 @@ fn later_pair(latest: Latest, seen: u32, to: u32) -> Result<(), Kind>
 
 /// The row's sum stays within the row total.
 #[tactic(auto, unfolding(crate::specs::Forms::fits_row))]
-fn fits_row(place: &Place, weight: i128) -> Result<(), Kind>
-    requires place { IsPlace place.now }
+fn fits_row(progress: &Progress, weight: i128) -> Result<(), Kind>
+    requires progress { IsProgress progress.now }
     requires low { pos 0 ≤ℤ weight }
-    requires high { weight ≤ℤ place.now.shape.row_total }
-    ensures kind { result ≡ fits_row place.now.shape place.now.sum weight }
-    ensures fits { OnOk result ((place.now.sum +ℤ weight) ≤ℤ place.now.shape.row_total) }
+    requires high { weight ≤ℤ progress.now.shape.row_total }
+    ensures kind { result ≡ fits_row progress.now.shape progress.now.sum weight }
+    ensures fits { OnOk result ((progress.now.sum +ℤ weight) ≤ℤ progress.now.shape.row_total) }
 {
-    if place.sum + weight > place.shape.row_total {
+    if progress.sum + weight > progress.shape.row_total {
         return Err(Kind::Total);
     }
     Ok(())
 }
 
 #[tactic(auto, unfolding(crate::specs::Entries::step_said))]
-fn step_line(alloc: Global, place: &Place, words: &[&[u8]]) -> Result<RowEntry, LineFault>
-    requires { IsPlace place.now }
-    ensures gives { Gives entry_in result (step_said place.now.shape place.now.begun place.now.sum (map (λ word. word.now) words.now)) }
-    ensures fits { IfOk result (FitsPlace place.now) }
+fn step_line(
+    alloc: Global,
+    progress: &Progress,
+    words: &[&[u8]],
+) -> Result<RowEntry, LineFault<Kind>>
+    requires { IsProgress progress.now }
+    ensures gives { Gives entry_in result
+        (step_said progress.now.shape progress.now.begun progress.now.sum (line_in words.now)) }
+    ensures fits { IfOk result (FitsProgress progress.now) }
 {
-    let shape = place.shape;
+    let shape = progress.shape;
     let numbers = numbers_after(alloc, words, b"step", 4)?;
     let state = below_limit(Kind::Range, shape.states, numbers[0])?;
     let own = below_limit(Kind::Range, shape.own_actions, numbers[1])?;
     let informed = below_limit(Kind::Range, shape.informed_actions, numbers[2])?;
     let reward = limited(Kind::Range, -MOST_REWARD, MOST_REWARD, numbers[3])?;
-    next_triple(shape, place.begun, state, own, informed)?;
-    full_row(shape, place.begun, place.sum)?;
+    next_triple(shape, progress.begun, state, own, informed)?;
+    full_row(shape, progress.begun, progress.sum)?;
     narrow_reward(shape, reward)?;
     Ok(RowEntry::Step {
         state,
@@ -116,27 +123,37 @@ fn step_line(alloc: Global, place: &Place, words: &[&[u8]]) -> Result<RowEntry, 
 }
 
 #[tactic(auto, unfolding(crate::specs::Entries::out_said))]
-fn out_line(alloc: Global, place: &Place, words: &[&[u8]]) -> Result<RowEntry, LineFault>
-    requires { IsPlace place.now }
-    ensures gives { Gives entry_in result (out_said place.now.shape place.now.sum (pair_of place.now.latest) (map (λ word. word.now) words.now)) }
-    ensures fits { IfOk result (FitsPlace place.now) }
+fn out_line(
+    alloc: Global,
+    progress: &Progress,
+    words: &[&[u8]],
+) -> Result<RowEntry, LineFault<Kind>>
+    requires { IsProgress progress.now }
+    ensures gives { Gives entry_in result
+        (out_said progress.now.shape progress.now.sum (pair_of progress.now.latest) (line_in words.now)) }
+    ensures fits { IfOk result (FitsProgress progress.now) }
 {
     let numbers = numbers_after(alloc, words, b"out", 3)?;
-    let seen = below_limit(Kind::Range, place.shape.observations, numbers[0])?;
-    let to = below_limit(Kind::Range, place.shape.states, numbers[1])?;
-    let weight = limited(Kind::Range, 1, place.shape.row_total, numbers[2])?;
-    later_pair(place.latest, seen, to)?;
-    fits_row(place, weight)?;
+    let seen = below_limit(Kind::Range, progress.shape.observations, numbers[0])?;
+    let to = below_limit(Kind::Range, progress.shape.states, numbers[1])?;
+    let weight = limited(Kind::Range, 1, progress.shape.row_total, numbers[2])?;
+    later_pair(progress.latest, seen, to)?;
+    fits_row(progress, weight)?;
     Ok(RowEntry::Out(Landing { seen, to, weight }))
 }
 
 #[tactic(auto, unfolding(crate::specs::Entries::end_said))]
-fn end_line(alloc: Global, place: &Place, words: &[&[u8]]) -> Result<RowEntry, LineFault>
-    ensures gives { Gives entry_in result (end_said place.now.shape place.now.begun place.now.sum (map (λ word. word.now) words.now)) }
-    ensures fits { IfOk result (FitsPlace place.now) }
+fn end_line(
+    alloc: Global,
+    progress: &Progress,
+    words: &[&[u8]],
+) -> Result<RowEntry, LineFault<Kind>>
+    ensures gives { Gives entry_in result
+        (end_said progress.now.shape progress.now.begun progress.now.sum (line_in words.now)) }
+    ensures fits { IfOk result (FitsProgress progress.now) }
 {
     numbers_after(alloc, words, b"end", 0)?;
-    full_row(place.shape, place.begun, place.sum)?;
+    full_row(progress.shape, progress.begun, progress.sum)?;
     Ok(RowEntry::End)
 }
 
@@ -148,18 +165,24 @@ fn triples(shape: Shape) -> u32
     shape.states * shape.own_actions * shape.informed_actions
 }
 
-/// What a line of the rows says at a place.
-#[tactic(auto, unfolding(crate::specs::Place::row_said, crate::specs::Entries::row_end_said))]
-pub fn row_line(alloc: Global, place: &Place, words: &[&[u8]]) -> Result<RowEntry, LineFault>
-    requires { IsPlace place.now }
-    ensures gives { Gives entry_in result (row_said place.now (map (λ word. word.now) words.now)) }
-    ensures fits { IfOk result (FitsPlace place.now) }
+/// What a line of the rows says where the reading is this far.
+#[tactic(auto, unfolding(crate::specs::Progress::row_said, crate::specs::Entries::row_end_said))]
+pub fn row_line(
+    alloc: Global,
+    progress: &Progress,
+    words: &[&[u8]],
+) -> Result<RowEntry, LineFault<Kind>>
+    requires { IsProgress progress.now }
+    ensures gives { Gives entry_in result (row_said progress.now (line_in words.now)) }
+    ensures fits { IfOk result (FitsProgress progress.now) }
 {
-    match place.latest {
-        Latest::Start => step_line(alloc, place, words),
-        Latest::Row => out_line(alloc, place, words),
-        Latest::Pair(_, _) if begins(b"out", words) => out_line(alloc, place, words),
-        Latest::Pair(_, _) if place.begun == triples(place.shape) => end_line(alloc, place, words),
-        Latest::Pair(_, _) => step_line(alloc, place, words),
+    match progress.latest {
+        Latest::Start => step_line(alloc, progress, words),
+        Latest::Row => out_line(alloc, progress, words),
+        Latest::Pair(_, _) if begins(b"out", words) => out_line(alloc, progress, words),
+        Latest::Pair(_, _) if progress.begun == triples(progress.shape) => end_line(
+            alloc, progress, words,
+        ),
+        Latest::Pair(_, _) => step_line(alloc, progress, words),
     }
 }

@@ -4,10 +4,11 @@ use Rattle.std.specs.Prelude.{ℤ, pos, ◌+ℤ◌, ◌*ℤ◌, ◌≤ℤ◌, su
 use Rattle.std.proofs.Math.Nat.{pow-zero, pow-suc}
 use Rattle.std.proofs.lemmas.Int.{ints}
 use Rattle.scaled_num.specs.Sums.{total, below}
+use Rattle.game_model.specs.Branches.{Continuation}
 use Rattle.game_model.specs.Numbers.{Numbers, over_row, RowsAreFull}
 use Rattle.game_model.specs.Plan.{OwnPlan, InformedPlan, IsOwnPlan, IsInformedPlan, branches_total}
 use Rattle.game_model.specs.Play.{first_steps, step_weight, own_branch, informed_branch, own_after, informed_after, no_own_plan, no_informed_plan, pay}
-use Rattle.alpha_set.specs.Nodes.{Node, Step, steps_at, steps_worth}
+use Rattle.alpha_set.specs.Nodes.{Node, steps_at, steps_worth}
 use Rattle.history_model.specs.Plans.{own_plan}
 use Rattle.controller.specs.Members.{NodeKeeps}
 use Rattle.history_model.proofs.Parts.{NodeGains, ControllerEarns, ControllerEarnsFamily}
@@ -19,8 +20,8 @@ use Rattle.game_model.proofs.Family.{family-lower}
 use Rattle.game_model.proofs.Lower.{stage-lower, less_tail}
 
 -- the branch that a step of a node makes
-abbrev branch_of : (ℕ → Node) → (n : ℕ) → Step → ℕ × OwnPlan n
-branch_of nodes n step = (step.weight, own_plan nodes step.node n)
+abbrev branch_of : (ℕ → Node) → (n : ℕ) → Continuation → ℕ × OwnPlan n
+branch_of nodes n step = (step.weight, own_plan nodes step.member n)
 
 -- the plan of a node is a right plan, of the total of its mix
 pub own_plan-is_plan : (g : Numbers) (m v count : ℕ) (nodes : ℕ → Node) → 1 ≤ m → ((i : ℕ) → i < count → NodeKeeps g m v count (nodes i)) →
@@ -33,14 +34,14 @@ own_plan-is_plan g m v count nodes lm fits (suc n) i li =
       same = λ a o la lo. sum_by-map (λ (b : ℕ × OwnPlan n). b.0) (branch_of nodes n) (steps_at (nodes i) a o) ∙ (fits i li).steps_sum a o la lo;
       sums = (fits i li).mix_sums;
       rest = λ a o la lo. each-map (λ (b : ℕ × OwnPlan n). IsOwnPlan g m n b.1) (branch_of nodes n) (steps_at (nodes i) a o)
-          (each-from (λ step. step.node < count) _ (steps_at (nodes i) a o) (λ step l. own_plan-is_plan g m v count nodes lm fits n step.node l) ((fits i li).named a o la lo));
+          (each-from (λ step. step.member < count) _ (steps_at (nodes i) a o) (λ step l. own_plan-is_plan g m v count nodes lm fits n step.member l) ((fits i li).named a o la lo));
     }
 
 -- the step of a node at a place
-abbrev no_step : Step
-no_step = record { own = 0; seen = 0; node = 0; weight = 0 }
+abbrev no_step : Continuation
+no_step = record { own = 0; seen = 0; member = 0; weight = 0 }
 
-abbrev step_at : Node → ℕ → ℕ → ℕ → Step
+abbrev step_at : Node → ℕ → ℕ → ℕ → Continuation
 step_at node a o u = get_or (steps_at node a o) u no_step
 
 -- an element of a mapped list, where the place is in the list
@@ -54,30 +55,30 @@ len-map f [] = refl
 len-map f (x ∷ xs) = ap suc (len-map f xs)
 
 -- a sum over the places of a node's branches, as a sum over its steps
-places : {X : Type 0} (f : Step → ℤ) (h : Step → X) (node : Node) (a o : ℕ) →
+places : {X : Type 0} (f : Continuation → ℤ) (h : Continuation → X) (node : Node) (a o : ℕ) →
     total (λ u. f (step_at node a o u)) (below (length (map h (steps_at node a o)))) ≡ total f (steps_at node a o)
 places f h node a o = rw (len-map h (steps_at node a o)) (total-places f no_step (steps_at node a o))
 
 -- one place of the row: the sum over the places of player one's branches
 one_place : (n : ℕ) (nodes : ℕ → Node) (i a o t w q : ℕ) (er p k : ℤ) →
-    total (λ u. pos (w * (own_branch n (own_plan nodes i (suc n) a o) u).0) *ℤ (pos q *ℤ (er +ℤ p *ℤ ((nodes (step_at (nodes i) a o u).node).vector t *ℤ k))))
+    total (λ u. pos (w * (own_branch n (own_plan nodes i (suc n) a o) u).0) *ℤ (pos q *ℤ (er +ℤ p *ℤ ((nodes (step_at (nodes i) a o u).member).vector t *ℤ k))))
     (below (length (own_plan nodes i (suc n) a o)))
     ≡ pos w *ℤ (pos q *ℤ (pos (sum_by (λ step. step.weight) (steps_at (nodes i) a o)) *ℤ er +ℤ (p *ℤ k) *ℤ steps_worth nodes (nodes i) a o t))
 one_place n nodes i a o t w q er p k =
     let steps = steps_at (nodes i) a o in
     let h = branch_of nodes n in
-    let f = λ (step : Step). pos (w * step.weight) *ℤ (pos q *ℤ (er +ℤ p *ℤ ((nodes step.node).vector t *ℤ k))) in
+    let f = λ (step : Continuation). pos (w * step.weight) *ℤ (pos q *ℤ (er +ℤ p *ℤ ((nodes step.member).vector t *ℤ k))) in
     total-below (length (map h steps)) _ (λ u. f (step_at (nodes i) a o u))
-    (λ u lu. ap (λ (b : ℕ × OwnPlan n). pos (w * b.0) *ℤ (pos q *ℤ (er +ℤ p *ℤ ((nodes (step_at (nodes i) a o u).node).vector t *ℤ k))))
+    (λ u lu. ap (λ (b : ℕ × OwnPlan n). pos (w * b.0) *ℤ (pos q *ℤ (er +ℤ p *ℤ ((nodes (step_at (nodes i) a o u).member).vector t *ℤ k))))
     (get_or-map h steps u no_step (0, no_own_plan n) lu))
     ∙ places f h (nodes i) a o
-    ∙ total-same f (λ step. (pos w *ℤ (pos q *ℤ er)) *ℤ pos step.weight +ℤ (pos w *ℤ (pos q *ℤ (p *ℤ k))) *ℤ (pos step.weight *ℤ (nodes step.node).vector t)) steps
-    (each (λ step. spread (pos w) (pos step.weight) (pos q) er p ((nodes step.node).vector t) k) steps)
+    ∙ total-same f (λ step. (pos w *ℤ (pos q *ℤ er)) *ℤ pos step.weight +ℤ (pos w *ℤ (pos q *ℤ (p *ℤ k))) *ℤ (pos step.weight *ℤ (nodes step.member).vector t)) steps
+    (each (λ step. spread (pos w) (pos step.weight) (pos q) er p ((nodes step.member).vector t) k) steps)
     ∙ total-add _ _ steps
-    ∙ ap (λ z. z +ℤ total (λ step. (pos w *ℤ (pos q *ℤ (p *ℤ k))) *ℤ (pos step.weight *ℤ (nodes step.node).vector t)) steps)
+    ∙ ap (λ z. z +ℤ total (λ step. (pos w *ℤ (pos q *ℤ (p *ℤ k))) *ℤ (pos step.weight *ℤ (nodes step.member).vector t)) steps)
     (total-scale (pos w *ℤ (pos q *ℤ er)) (λ step. pos step.weight) steps ∙ ap (λ z. (pos w *ℤ (pos q *ℤ er)) *ℤ z) (total-pos (λ step. step.weight) steps))
     ∙ ap (λ z. (pos w *ℤ (pos q *ℤ er)) *ℤ pos (sum_by (λ step. step.weight) steps) +ℤ z)
-    (total-scale (pos w *ℤ (pos q *ℤ (p *ℤ k))) (λ step. pos step.weight *ℤ (nodes step.node).vector t) steps)
+    (total-scale (pos w *ℤ (pos q *ℤ (p *ℤ k))) (λ step. pos step.weight *ℤ (nodes step.member).vector t) steps)
     ∙ gather (pos w) (pos q) er p k (pos (sum_by (λ step. step.weight) steps)) (steps_worth nodes (nodes i) a o t)
   where
     spread : (w x q er p y k : ℤ) → (w *ℤ x) *ℤ (q *ℤ (er +ℤ p *ℤ (y *ℤ k))) ≡ (w *ℤ (q *ℤ er)) *ℤ x +ℤ (w *ℤ (q *ℤ (p *ℤ k))) *ℤ (x *ℤ y)
@@ -91,7 +92,7 @@ stage-gives : (g : Numbers) (m v count n s i : ℕ) (nodes : ℕ → Node) (tau 
     ((c a o t : ℕ) → c < g.informed_actions → a < g.own_actions → o < g.observations → t < g.states → branches_total (tau c a o t) ≡ q c) →
     (e p k k₁ : ℤ) →
     total (λ x. pos (step_weight g n s (own_plan nodes i (suc n)) tau x)
-    *ℤ (e *ℤ (g.reward s x.own x.informed *ℤ k₁) +ℤ p *ℤ ((nodes (step_at (nodes i) x.own x.seen x.own_place).node).vector x.to *ℤ k)))
+    *ℤ (e *ℤ (g.reward s x.own x.informed *ℤ k₁) +ℤ p *ℤ ((nodes (step_at (nodes i) x.own x.seen x.own_place).member).vector x.to *ℤ k)))
     (first_steps g n (own_plan nodes i (suc n)) tau)
     ≡ total (λ c. pos (q c) *ℤ total (λ a.
     pos g.row_total *ℤ (pos ((nodes i).mix a) *ℤ (e *ℤ (g.reward s a c *ℤ k₁))) +ℤ (p *ℤ k) *ℤ over_row g s a c (λ o t. steps_worth nodes (nodes i) a o t))
@@ -101,7 +102,7 @@ stage-gives g m v count n s i nodes tau q full ls fit hq e p k k₁ =
     let er = λ (a c : ℕ). e *ℤ (g.reward s a c *ℤ k₁) in
     let worth = λ (a o t : ℕ). steps_worth nodes (nodes i) a o t in
     let inside = λ (a c : ℕ). pos g.row_total *ℤ (pos ((nodes i).mix a) *ℤ er a c) +ℤ (p *ℤ k) *ℤ over_row g s a c (worth a) in
-    total-informed_coins g n s sigma tau q hq (λ a c o t u. er a c +ℤ p *ℤ ((nodes (step_at (nodes i) a o u).node).vector t *ℤ k))
+    total-informed_coins g n s sigma tau q hq (λ a c o t u. er a c +ℤ p *ℤ ((nodes (step_at (nodes i) a o u).member).vector t *ℤ k))
     ∙ total-below g.own_actions _ _ (λ a la.
     total-below g.informed_actions _ (λ c. pos (q c) *ℤ inside a c) (λ c lc.
     total-below g.observations _ _ (λ o lo.
@@ -133,15 +134,15 @@ controller-lower g e m v count nodes full lm fits rule n₂ (suc n) i s tau li l
     let p = pos g.discount_over in
     let sigma : OwnPlan (suc n) = own_plan nodes i (suc n) in
     let vector = (nodes i).vector in
-    let stage = stage-lower g e m n₂ full n s sigma tau ls own informed tail (λ x. (nodes (step_at (nodes i) x.own x.seen x.own_place).node).vector x.to *ℤ pos K)
+    let stage = stage-lower g e m n₂ full n s sigma tau ls own informed tail (λ x. (nodes (step_at (nodes i) x.own x.seen x.own_place).member).vector x.to *ℤ pos K)
     (first_steps-each g n sigma tau
-    (λ x. ((nodes (step_at (nodes i) x.own x.seen x.own_place).node).vector x.to *ℤ pos K) ≤ℤ (pos e *ℤ pay g n x.to (own_after n sigma x).1 (informed_after n tau x).1 +ℤ pos tail))
+    (λ x. ((nodes (step_at (nodes i) x.own x.seen x.own_place).member).vector x.to *ℤ pos K) ≤ℤ (pos e *ℤ pay g n x.to (own_after n sigma x).1 (informed_after n tau x).1 +ℤ pos tail))
     (λ a c o t u w la lc lo lt lu lw.
     let tau' = (informed_branch n (tau c a o t) w).1 in
     let right = each-at (λ (b : ℕ × InformedPlan n). IsInformedPlan g n₂ n b.1) (0, no_informed_plan n) (tau c a o t) w (informed.rest c a o t lc la lo lt) lw in
-    let k = (step_at (nodes i) a o u).node in
+    let k = (step_at (nodes i) a o u).member in
     let lu' : u < length (steps_at (nodes i) a o) = subst (λ (z : ℕ). u < z) (len-map (branch_of nodes n) (steps_at (nodes i) a o)) lu in
-    let lk = each-at (λ step. step.node < count) no_step (steps_at (nodes i) a o) u ((fits i li).named a o la lo) lu' in
+    let lk = each-at (λ step. step.member < count) no_step (steps_at (nodes i) a o) u ((fits i li).named a o la lo) lu' in
     let P = λ (b : ℕ × OwnPlan n). ((nodes k).vector t *ℤ pos K) ≤ℤ (pos e *ℤ pay g n t b.1 tau' +ℤ pos tail) in
     subst P (sym (get_or-map (branch_of nodes n) (steps_at (nodes i) a o) u no_step (0, no_own_plan n) lu))
     (controller-lower g e m v count nodes full lm fits rule n₂ n k t tau' lk lt right))) in

@@ -1,21 +1,25 @@
 -- Both halves worked out over the definitions: every number is computed, and both sides are equal.
 use Rattle.std.proofs.Common.{◌≡◌, ℕ, suc, zero, ◌*◌, ◌^◌, [], ◌∷◌, refl}
-use Rattle.std.specs.Prelude.{pos, ◌-ℤ◌, ◌*ℤ◌}
+use Rattle.std.specs.Prelude.{List, ℤ, pos, ◌-ℤ◌, ◌*ℤ◌}
 use Rattle.scaled_num.specs.Sums.{below, total}
 use Rattle.belief.specs.Mixes.{MixesData}
-use Rattle.controller.specs.Certificates.{CertificateData, Closed, FractionData, first_total}
+use Rattle.controller.specs.Certificates.{CertificateData, Closed, FractionData, Trials, first_total}
 use Rattle.game_model.specs.Branches.{Branch, mix_total}
 use Rattle.game_model.specs.Game.{GameData, first_at, numbers, span, unit}
 use Rattle.game_model.specs.Plan.{InformedPlan}
 use Rattle.game_model.specs.Play.{always, pay}
 use Rattle.game_model.specs.declared.parts.Landing.{Landing}
-use Rattle.history_model.specs.Halves.{common, reply, start}
+use Rattle.history_model.specs.Halves.{common, from_total, over_total, reply, reply_total, start, start_total}
 
 abbrev branch : ℕ → ℕ → ℕ → ℕ → Branch
 branch a o k weight = record { own = a; seen = o; member = k; weight = pos weight }
 
 abbrev over : ℕ → ℕ → FractionData
 over num den = record { num = pos num; den = pos den }
+
+-- one start, of weight 1
+abbrev alone_at : ℕ → List (ℕ × ℤ)
+alone_at i = (i, pos 1) ∷ []
 
 -- ---- one state, a reward of 3 each stage, discount 1/2: worth 6, which is the span
 abbrev three_halved : GameData
@@ -35,8 +39,9 @@ three_certificate = record {
   outcome = Closed;
   nodes = record { vector = pos 393216 ∷ []; mix = pos 65536 ∷ []; next = branch 0 0 0 65536 ∷ [] } ∷ [];
   points = record { belief = pos 1 ∷ []; value = pos 393216; mixes = record { states = 1; actions = 1; weights = pos 65536 ∷ [] }; splits = branch 0 0 0 65536 ∷ [] } ∷ [];
-  start_node = 0;
-  start_point = 0;
+  start_nodes = alone_at 0;
+  start_points = alone_at 0;
+  multiple = pos 1;
 }
 
 -- the one plan of the informed player, of total 1
@@ -82,8 +87,9 @@ guess_certificate = record {
       ∷ record { belief = pos 0 ∷ pos 1 ∷ []; value = pos 65536; mixes = sure; splits = branch 0 0 1 65536 ∷ branch 1 0 1 65536 ∷ [] }
       ∷ record { belief = pos 1 ∷ pos 1 ∷ []; value = pos 65536; mixes = sure; splits = branch 0 0 0 65536 ∷ branch 0 0 1 65536 ∷ branch 1 0 0 65536 ∷ branch 1 0 1 65536 ∷ [] }
       ∷ [];
-  start_node = 0;
-  start_point = 2;
+  start_nodes = alone_at 0;
+  start_points = alone_at 2;
+  multiple = pos 1;
 }
 
 -- eight masses are positive, each 65536
@@ -95,3 +101,61 @@ guess_upper :
     pos unit *ℤ total (λ s. pos (first_at guess_the_state s) *ℤ pay (numbers guess_the_state) 1 s (always 0 1) (reply guess_the_state guess_certificate s 1)) (below 2)
     ≡ pos (65536 * 1 * 65536 * common guess_the_state guess_certificate)
 guess_upper = refl
+
+-- ---- the same game with a draw among two nodes, one for each guess, and the first belief split into both corners
+abbrev two_starts : CertificateData
+two_starts = record {
+  lower = over 131072 262144;
+  upper = over 131072 131072;
+  tail = over 65536 65536;
+  gap = over 1 100;
+  outcome = Trials;
+  nodes =
+      record { vector = pos 65536 ∷ pos 0 ∷ []; mix = pos 65536 ∷ pos 0 ∷ []; next = branch 0 0 0 65536 ∷ [] }
+      ∷ record { vector = pos 0 ∷ pos 65536 ∷ []; mix = pos 0 ∷ pos 65536 ∷ []; next = branch 1 0 1 65536 ∷ [] }
+      ∷ [];
+  points =
+      record { belief = pos 1 ∷ pos 0 ∷ []; value = pos 65536; mixes = sure; splits = branch 0 0 0 65536 ∷ branch 1 0 0 65536 ∷ [] }
+      ∷ record { belief = pos 0 ∷ pos 1 ∷ []; value = pos 65536; mixes = sure; splits = branch 0 0 1 65536 ∷ branch 1 0 1 65536 ∷ [] }
+      ∷ [];
+  start_nodes = (0, pos 1) ∷ (1, pos 1) ∷ [];
+  start_points = (0, pos 1) ∷ (1, pos 1) ∷ [];
+  multiple = pos 1;
+}
+
+-- the two nodes are drawn among by weights of the sum 2, so that the total is 131072
+two_totals : (from_total two_starts ≡ 2) × (start_total two_starts ≡ 131072) × (over_total guess_the_state two_starts ≡ 1)
+two_totals = (refl, refl, refl)
+
+-- over two stages each first state pays half of 131072^2: the node that guesses it is drawn with the weight 1 of 2
+two_pay : pay (numbers guess_the_state) 2 0 (start two_starts 2) (alone 2) ≡ pos (65536 * 131072)
+two_pay = refl
+
+-- the lower half over two stages, where the tail is 0: 2 * 65536 * (1 + 1) * 65536 * 131072 on both sides
+two_lower :
+    (pos 131072 *ℤ pos (((numbers guess_the_state).row_total * start_total two_starts * 1) ^ 2))
+    ≡ pos (from_total two_starts * unit) *ℤ total (λ s. pos (first_at guess_the_state s) *ℤ pay (numbers guess_the_state) 2 s (start two_starts 2) (alone 2)) (below 2)
+two_lower = refl
+
+-- in the first state alone: the entries of the start nodes add up to 65536
+two_lower_at :
+    (pos 65536 *ℤ pos (((numbers guess_the_state).row_total * start_total two_starts * 1) ^ 2)) ≡ pos (from_total two_starts * unit) *ℤ pay (numbers guess_the_state) 2 0 (start two_starts 2) (alone 2)
+two_lower_at = refl
+
+-- ---- the points of the first certificate, with the first belief twice as both corners and the point in the middle
+abbrev three_points : CertificateData
+three_points = record guess_certificate {
+  upper = over 196608 262144;
+  start_points = (0, pos 1) ∷ (1, pos 1) ∷ (2, pos 1) ∷ [];
+  multiple = pos 2;
+}
+
+-- in each first state two points are drawn among, by weights of the sum 2: its corner and the one in the middle
+three_totals : (over_total guess_the_state three_points ≡ 2) × (reply_total guess_the_state three_points ≡ 2 * (65536 * common guess_the_state three_points))
+three_totals = (refl, refl)
+
+-- always guessing state 0 earns 131072 of at most 196608 over two stages, where the tail is 0
+three_upper :
+    pos (2 * unit) *ℤ total (λ s. pos (first_at guess_the_state s) *ℤ pay (numbers guess_the_state) 2 s (always 0 2) (reply guess_the_state three_points s 2)) (below 2)
+    ≡ pos 131072 *ℤ pos (((numbers guess_the_state).row_total * 1 * reply_total guess_the_state three_points) ^ 2)
+three_upper = refl

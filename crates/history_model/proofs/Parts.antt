@@ -1,8 +1,7 @@
 -- What the two inductions take of nodes and points, at any unit and any total of the mixes.
 use Rattle.std.specs.Prelude.{ℕ, ◌*◌, ◌^◌, ◌≡◌, ◌<◌, ◌≤◌, pos, ◌+ℤ◌, ◌-ℤ◌, ◌*ℤ◌, ◌≤ℤ◌, sum_by}
-use Rattle.std.specs.List.{AllByRecursion}
 use Rattle.scaled_num.specs.Sums.{below, total}
-use Rattle.alpha_set.specs.Nodes.{Node, steps_at, steps_worth}
+use Rattle.alpha_set.specs.Nodes.{Node, steps_worth}
 use Rattle.game_model.specs.Numbers.{Numbers, over_row, RowsAreFull}
 use Rattle.game_model.specs.Plan.{InformedPlan, IsInformedPlan, IsOwnPlan, OwnPlan}
 use Rattle.game_model.specs.Play.{pay}
@@ -21,10 +20,10 @@ NodeGains g e mix_total nodes i =
 -- A point stands: its shares make up its mass, and in one stage its value loses nothing whatever player one does.
 pub record PointLoses (g : Numbers) (e mix_total : ℕ) (points : ℕ → Point) (j : ℕ) : Type 0 where
   pub split : (a o t : ℕ) → a < g.own_actions → o < g.observations → t < g.states →
-      sum_by (λ share. share.weight * (points share.point).belief t) (shares_at (points j) a o) ≡ mass g (points j) a o t
+      sum_by (λ share. share.weight * (points share.member).belief t) (shares_at (points j) a o) ≡ mass g (points j) a o t
   pub holds : (a : ℕ) → a < g.own_actions →
       (total (λ s. total (λ c. pos ((points j).belief s * (points j).mixes s c) *ℤ g.reward s a c *ℤ pos (e * g.row_total * g.discount_under)) (below g.informed_actions)) (below g.states)
-      +ℤ pos g.discount_over *ℤ total (λ o. total (λ share. pos share.weight *ℤ (points share.point).value) (shares_at (points j) a o)) (below g.observations))
+      +ℤ pos g.discount_over *ℤ total (λ o. total (λ share. pos share.weight *ℤ (points share.member).value) (shares_at (points j) a o)) (below g.observations))
       ≤ℤ ((points j).value *ℤ pos (mix_total * g.row_total * g.discount_under))
 
 -- where each node fits and stands, the plan of node i earns its vector in each state, less the tail

@@ -8,10 +8,11 @@ use Rattle.std.proofs.lemmas.Bool.Decides.{eqb_tells}
 use Rattle.std.proofs.lemmas.List.Sums.{sum_by-cons}
 use borrow.Author.Differences.{up}
 use Rattle.scaled_num.specs.Sums.{total, below}
+use Rattle.game_model.specs.Branches.{Continuation}
 use Rattle.game_model.specs.Numbers.{Numbers, RowsAreFull}
 use Rattle.game_model.specs.Plan.{OwnPlan, InformedPlan, IsOwnPlan, IsInformedPlan, branches_total}
 use Rattle.game_model.specs.Play.{Step, first_steps, step_weight, own_branch, own_after, informed_after, no_own_plan, no_informed_plan, pay}
-use Rattle.point_set.specs.Points.{Point, Share, mass, shares_at}
+use Rattle.point_set.specs.Points.{Point, mass, shares_at}
 use Rattle.controller.specs.Members.{PointKeeps, belief_total}
 use Rattle.history_model.specs.Plans.{belief_pay, informed_plan, mass_product, masses, product_of_positive}
 use Rattle.history_model.proofs.Parts.{PointLoses, SplittingHolds, SplittingPlans}
@@ -23,7 +24,7 @@ use Rattle.scaled_num.proofs.Each.{each-of-map, each-of-flat_map, at-below}
 use Rattle.point_set.proofs.Masses.{mass-total, masses-total}
 
 -- a number times a sum of whole numbers
-sum_by-scale : {X : Type 0} (k : ℕ) (f : X → ℕ) (xs : List X) → sum_by (λ x. k * f x) xs ≡ k * sum_by f xs
+pub sum_by-scale : {X : Type 0} (k : ℕ) (f : X → ℕ) (xs : List X) → sum_by (λ x. k * f x) xs ≡ k * sum_by f xs
 sum_by-scale k f xs = ap up (sym (total-pos (λ x. k * f x) xs) ∙ total-scale (pos k) (λ x. pos (f x)) xs ∙ ap (λ z. pos k *ℤ z) (total-pos f xs))
 
 -- each positive mass of a point divides z
@@ -33,20 +34,20 @@ DividesAll g points count z =
     mass g (points j) a o t ≢ 0 → mass g (points j) a o t * (z / mass g (points j) a o t) ≡ z
 
 -- the branch of a share
-abbrev share_branch : Numbers → (ℕ → Point) → ℕ → ℕ → ℕ → ℕ → (n : ℕ) → Share → ℕ × InformedPlan n
-share_branch g points z m w t n share = (m * share.weight * (points share.point).belief t * (z / w), informed_plan g points z share.point t n)
+abbrev share_branch : Numbers → (ℕ → Point) → ℕ → ℕ → ℕ → ℕ → (n : ℕ) → Continuation → ℕ × InformedPlan n
+share_branch g points z m w t n share = (m * share.weight * (points share.member).belief t * (z / w), informed_plan g points z share.member t n)
 
 -- the weights after an informed action, wherever the stage leads
-branches-sum : (g : Numbers) (points : ℕ → Point) (z m w t k n : ℕ) (shares : List Share) →
-    sum_by (λ share. share.weight * (points share.point).belief t) shares ≡ w → (w ≢ 0 → w * (z / w) ≡ z) →
+branches-sum : (g : Numbers) (points : ℕ → Point) (z m w t k n : ℕ) (shares : List Continuation) →
+    sum_by (λ share. share.weight * (points share.member).belief t) shares ≡ w → (w ≢ 0 → w * (z / w) ≡ z) →
     branches_total (cond (w == 0) ((m * z, informed_plan g points z k t n) ∷ []) (map (share_branch g points z m w t n) shares)) ≡ m * z
 branches-sum g points z m w t k n shares split divides =
     elim (eqb_tells w 0) [
       | inl e ↦ rw e.0 (omega arith)
       | inr e ↦ rw e.0
           (sum_by-map (λ (b : ℕ × InformedPlan n). b.0) (share_branch g points z m w t n) shares
-          ∙ sum_by-same _ (λ share. (m * (z / w)) * (share.weight * (points share.point).belief t)) shares (λ share. omega arith)
-          ∙ sum_by-scale (m * (z / w)) (λ share. share.weight * (points share.point).belief t) shares
+          ∙ sum_by-same _ (λ share. (m * (z / w)) * (share.weight * (points share.member).belief t)) shares (λ share. omega arith)
+          ∙ sum_by-scale (m * (z / w)) (λ share. share.weight * (points share.member).belief t) shares
           ∙ ap (λ (x : ℕ). (m * (z / w)) * x) split
           ∙ last m (z / w) w z (divides e.1))
     ]
@@ -75,13 +76,13 @@ informed_plan-is_plan g m v count z e points lm lz enough divide fits stand (suc
       rest = λ c a o t lc la lo lt. each-cond (λ (b : ℕ × InformedPlan n). IsInformedPlan g (m * z) n b.1) (mass g (points j) a o t == 0) _ _
           (informed_plan-is_plan g m v count z e points lm lz enough divide fits stand n t t (omega arith) lt, tt)
           (each-map (λ (b : ℕ × InformedPlan n). IsInformedPlan g (m * z) n b.1) (share_branch g points z ((points j).mixes s c) (mass g (points j) a o t) t n) (shares_at (points j) a o)
-          (each-from (λ share. share.point < count) _ (shares_at (points j) a o)
-          (λ share l. informed_plan-is_plan g m v count z e points lm lz enough divide fits stand n share.point t l lt)
+          (each-from (λ share. share.member < count) _ (shares_at (points j) a o)
+          (λ share l. informed_plan-is_plan g m v count z e points lm lz enough divide fits stand n share.member t l lt)
           ((fits j lj).named a o la lo)));
     }
 
 -- a weighted sum whose weights sum to nothing is nothing
-zero-weights : {X : Type 0} (f : X → ℕ) (h : X → ℤ) (xs : List X) → sum_by f xs ≡ 0 → total (λ x. pos (f x) *ℤ h x) xs ≡ pos 0
+pub zero-weights : {X : Type 0} (f : X → ℕ) (h : X → ℤ) (xs : List X) → sum_by f xs ≡ 0 → total (λ x. pos (f x) *ℤ h x) xs ≡ pos 0
 zero-weights f h [] e = refl
 zero-weights f h (x ∷ xs) e =
     let parts : f x + sum_by f xs ≡ 0 = sym (sum_by-cons f x xs) ∙ e in
@@ -125,16 +126,16 @@ total-left g n s sigma tau =
 -- The splitting: what is left, over the states and the informed player's actions, is what the shares are left with.
 -- Player one's plan of what is left does not depend on the share.
 split-left : (g : Numbers) (points : ℕ → Point) (z j n a o t : ℕ) (plan : OwnPlan n) →
-    sum_by (λ share. share.weight * (points share.point).belief t) (shares_at (points j) a o) ≡ mass g (points j) a o t →
+    sum_by (λ share. share.weight * (points share.member).belief t) (shares_at (points j) a o) ≡ mass g (points j) a o t →
     (mass g (points j) a o t ≢ 0 → mass g (points j) a o t * (z / mass g (points j) a o t) ≡ z) →
     total (λ s. total (λ c. pos ((points j).belief s * g.weight s a c o t) *ℤ left g n t plan (informed_plan g points z j s (suc n) c a o t)) (below g.informed_actions)) (below g.states)
-    ≡ pos z *ℤ total (λ share. pos (share.weight * (points share.point).belief t) *ℤ pay g n t plan (informed_plan g points z share.point t n)) (shares_at (points j) a o)
+    ≡ pos z *ℤ total (λ share. pos (share.weight * (points share.member).belief t) *ℤ pay g n t plan (informed_plan g points z share.member t n)) (shares_at (points j) a o)
 split-left g points z j n a o t plan split divides =
     let w = mass g (points j) a o t in
     let shares = shares_at (points j) a o in
     let b = (points j).belief in
     let mixes = (points j).mixes in
-    let rest = total (λ share. pos (share.weight * (points share.point).belief t) *ℤ pay g n t plan (informed_plan g points z share.point t n)) shares in
+    let rest = total (λ share. pos (share.weight * (points share.member).belief t) *ℤ pay g n t plan (informed_plan g points z share.member t n)) shares in
     elim (eqb_tells w 0) [
       | inl e ↦ rw e.0
           (total-below g.states _ _ (λ s ls. total-below g.informed_actions _
@@ -142,16 +143,16 @@ split-left g points z j n a o t plan split divides =
           (λ c lc. alone_only (pos (b s)) (pos (g.weight s a c o t)) (pos (mixes s c)) (pos z) (pay g n t plan (informed_plan g points z t t n))))
           ∙ mass-total g (points j) a o t (pos z *ℤ pay g n t plan (informed_plan g points z t t n))
           ∙ nothing w (pos z *ℤ pay g n t plan (informed_plan g points z t t n)) (pos z) rest e.1
-          (zero-weights (λ share. share.weight * (points share.point).belief t) (λ share. pay g n t plan (informed_plan g points z share.point t n)) shares (split ∙ e.1)))
+          (zero-weights (λ share. share.weight * (points share.member).belief t) (λ share. pay g n t plan (informed_plan g points z share.member t n)) shares (split ∙ e.1)))
       | inr e ↦ rw e.0
           (total-below g.states _ _ (λ s ls. total-below g.informed_actions _
           (λ c. pos (b s * mixes s c * g.weight s a c o t) *ℤ (pos (z / w) *ℤ rest))
           (λ c lc.
           ap (λ y. pos (b s * g.weight s a c o t) *ℤ y)
           (total-map (λ (x : ℕ × InformedPlan n). pos x.0 *ℤ pay g n t plan x.1) (share_branch g points z (mixes s c) w t n) shares
-          ∙ total-same _ (λ share. pos (mixes s c * (z / w)) *ℤ (pos (share.weight * (points share.point).belief t) *ℤ pay g n t plan (informed_plan g points z share.point t n))) shares
-          (each (λ share. four (pos (mixes s c)) (pos share.weight) (pos ((points share.point).belief t)) (pos (z / w)) (pay g n t plan (informed_plan g points z share.point t n))) shares)
-          ∙ total-scale (pos (mixes s c * (z / w))) (λ share. pos (share.weight * (points share.point).belief t) *ℤ pay g n t plan (informed_plan g points z share.point t n)) shares)
+          ∙ total-same _ (λ share. pos (mixes s c * (z / w)) *ℤ (pos (share.weight * (points share.member).belief t) *ℤ pay g n t plan (informed_plan g points z share.member t n))) shares
+          (each (λ share. four (pos (mixes s c)) (pos share.weight) (pos ((points share.member).belief t)) (pos (z / w)) (pay g n t plan (informed_plan g points z share.member t n))) shares)
+          ∙ total-scale (pos (mixes s c * (z / w))) (λ share. pos (share.weight * (points share.member).belief t) *ℤ pay g n t plan (informed_plan g points z share.member t n)) shares)
           ∙ alone (pos (b s)) (pos (g.weight s a c o t)) (pos (mixes s c)) (pos (z / w)) rest))
           ∙ mass-total g (points j) a o t (pos (z / w) *ℤ rest)
           ∙ sym (mulℤ_assoc (pos w) (pos (z / w)) rest)
@@ -190,24 +191,24 @@ scale-le e f g xs h = rw (← (total-scale e f xs)) (total-le (λ x. e *ℤ f x)
 -- ---- what is left, summed over the states by the belief
 
 -- what a share's point and plan are left with, over all shares
-abbrev shares_pay : Numbers → (ℕ → Point) → ℕ → (n : ℕ) → OwnPlan n → List Share → ℤ
-shares_pay g points z n plan shares = total (λ share. pos share.weight *ℤ belief_pay g points z n share.point plan) shares
+abbrev shares_pay : Numbers → (ℕ → Point) → ℕ → (n : ℕ) → OwnPlan n → List Continuation → ℤ
+shares_pay g points z n plan shares = total (λ share. pos share.weight *ℤ belief_pay g points z n share.member plan) shares
 
 -- the sum over the next state of what the shares are left with
-split-states : (g : Numbers) (points : ℕ → Point) (z n : ℕ) (plan : OwnPlan n) (shares : List Share) →
-    total (λ t. total (λ share. pos (share.weight * (points share.point).belief t) *ℤ pay g n t plan (informed_plan g points z share.point t n)) shares) (below g.states)
+split-states : (g : Numbers) (points : ℕ → Point) (z n : ℕ) (plan : OwnPlan n) (shares : List Continuation) →
+    total (λ t. total (λ share. pos (share.weight * (points share.member).belief t) *ℤ pay g n t plan (informed_plan g points z share.member t n)) shares) (below g.states)
     ≡ shares_pay g points z n plan shares
 split-states g points z n plan shares =
-    total-swap (λ t share. pos (share.weight * (points share.point).belief t) *ℤ pay g n t plan (informed_plan g points z share.point t n)) (below g.states) shares
+    total-swap (λ t share. pos (share.weight * (points share.member).belief t) *ℤ pay g n t plan (informed_plan g points z share.member t n)) (below g.states) shares
     ∙ total-same _ _ shares (each (λ share.
-    total-same _ (λ t. pos share.weight *ℤ (pos ((points share.point).belief t) *ℤ pay g n t plan (informed_plan g points z share.point t n))) (below g.states)
-    (each (λ t. mulℤ_assoc (pos share.weight) (pos ((points share.point).belief t)) (pay g n t plan (informed_plan g points z share.point t n))) (below g.states))
-    ∙ total-scale (pos share.weight) (λ t. pos ((points share.point).belief t) *ℤ pay g n t plan (informed_plan g points z share.point t n)) (below g.states)) shares)
+    total-same _ (λ t. pos share.weight *ℤ (pos ((points share.member).belief t) *ℤ pay g n t plan (informed_plan g points z share.member t n))) (below g.states)
+    (each (λ t. mulℤ_assoc (pos share.weight) (pos ((points share.member).belief t)) (pay g n t plan (informed_plan g points z share.member t n))) (below g.states))
+    ∙ total-scale (pos share.weight) (λ t. pos ((points share.member).belief t) *ℤ pay g n t plan (informed_plan g points z share.member t n)) (below g.states)) shares)
 
 -- what is left of all first steps, summed over the states by the belief of point j
 total-left_split : (g : Numbers) (points : ℕ → Point) (z j n : ℕ) (sigma : OwnPlan (suc n)) →
     ((a o t : ℕ) → a < g.own_actions → o < g.observations → t < g.states →
-    sum_by (λ share. share.weight * (points share.point).belief t) (shares_at (points j) a o) ≡ mass g (points j) a o t) →
+    sum_by (λ share. share.weight * (points share.member).belief t) (shares_at (points j) a o) ≡ mass g (points j) a o t) →
     ((a o t : ℕ) → a < g.own_actions → o < g.observations → t < g.states →
     mass g (points j) a o t ≢ 0 → mass g (points j) a o t * (z / mass g (points j) a o t) ≡ z) →
     total (λ s. pos ((points j).belief s) *ℤ total (λ a. total (λ c. total (λ o. total (λ t. total (λ u.
@@ -226,7 +227,7 @@ total-left_split g points z j n sigma split divides =
     let C = below g.informed_actions in
     let O = below g.observations in
     let S = below g.states in
-    let share_t = λ (a o t u : ℕ). total (λ share. pos (share.weight * (points share.point).belief t) *ℤ pay g n t (plan a o u) (informed_plan g points z share.point t n)) (shares_at (points j) a o) in
+    let share_t = λ (a o t u : ℕ). total (λ share. pos (share.weight * (points share.member).belief t) *ℤ pay g n t (plan a o u) (informed_plan g points z share.member t n)) (shares_at (points j) a o) in
     total-same _ (λ s. total (λ a. total (λ c. total (λ o. total (λ t. total (λ u. pos (b s) *ℤ f s a c o t u) (us a o)) S) O) C) A) S
     (each (λ s.
     sym (total-scale (pos (b s)) (λ a. total (λ c. total (λ o. total (λ t. total (λ u. f s a c o t u) (us a o)) S) O) C) A)
@@ -262,13 +263,13 @@ total-left_split g points z j n sigma split divides =
 left-le : (g : Numbers) (points : ℕ → Point) (z j n : ℕ) (e : ℤ) (sigma : OwnPlan (suc n)) (p : ℕ → ℕ) (bound : ℕ → ℤ) →
     ((a o : ℕ) → a < g.own_actions → o < g.observations → branches_total (sigma a o) ≡ p a) →
     ((a o u : ℕ) → a < g.own_actions → o < g.observations → u < length (sigma a o) →
-    AllByRecursion (λ share. (e *ℤ belief_pay g points z n share.point (own_branch n (sigma a o) u).1) ≤ℤ bound share.point) (shares_at (points j) a o)) →
+    AllByRecursion (λ share. (e *ℤ belief_pay g points z n share.member (own_branch n (sigma a o) u).1) ≤ℤ bound share.member) (shares_at (points j) a o)) →
     (e *ℤ total (λ a. total (λ o. total (λ u. pos (own_branch n (sigma a o) u).0 *ℤ (pos z *ℤ shares_pay g points z n (own_branch n (sigma a o) u).1 (shares_at (points j) a o)))
     (below (length (sigma a o)))) (below g.observations)) (below g.own_actions))
-    ≤ℤ total (λ a. pos (p a) *ℤ (pos z *ℤ total (λ o. total (λ share. pos share.weight *ℤ bound share.point) (shares_at (points j) a o)) (below g.observations))) (below g.own_actions)
+    ≤ℤ total (λ a. pos (p a) *ℤ (pos z *ℤ total (λ o. total (λ share. pos share.weight *ℤ bound share.member) (shares_at (points j) a o)) (below g.observations))) (below g.own_actions)
 left-le g points z j n e sigma p bound hp h =
     scale-le e _ _ (below g.own_actions) (below-each _ g.own_actions (λ a la.
-    let gives = λ (o : ℕ). total (λ share. pos share.weight *ℤ bound share.point) (shares_at (points j) a o) in
+    let gives = λ (o : ℕ). total (λ share. pos share.weight *ℤ bound share.member) (shares_at (points j) a o) in
     let part : total (λ o. pos (p a) *ℤ (pos z *ℤ gives o)) (below g.observations) ≡ pos (p a) *ℤ (pos z *ℤ total gives (below g.observations)) =
     total-scale (pos (p a)) (λ o. pos z *ℤ gives o) (below g.observations) ∙ ap (λ y. pos (p a) *ℤ y) (total-scale (pos z) gives (below g.observations)) in
     let goal = λ (y : ℤ). (e *ℤ total (λ o. total (λ u. pos (own_branch n (sigma a o) u).0 *ℤ (pos z *ℤ shares_pay g points z n (own_branch n (sigma a o) u).1 (shares_at (points j) a o)))
@@ -284,7 +285,7 @@ left-le g points z j n e sigma p bound hp h =
     subst goal' coins (scale-le e _ _ (below (length branches)) (below-each _ (length branches) (λ u lu.
     inward e (own_branch n branches u).0 z (shares_pay g points z n (own_branch n branches u).1 (shares_at (points j) a o)) (gives o)
     (scale-le e _ _ (shares_at (points j) a o)
-    (each-from (λ share. (e *ℤ belief_pay g points z n share.point (own_branch n branches u).1) ≤ℤ bound share.point) _ (shares_at (points j) a o)
+    (each-from (λ share. (e *ℤ belief_pay g points z n share.member (own_branch n branches u).1) ≤ℤ bound share.member) _ (shares_at (points j) a o)
     (λ share l. inside e share.weight _ _ l) (h a o u la lo lu)))))))))))
   where
     inside : (e : ℤ) (x : ℕ) (y b : ℤ) → (e *ℤ y) ≤ℤ b → (e *ℤ (pos x *ℤ y)) ≤ℤ (pos x *ℤ b)
@@ -298,30 +299,30 @@ left-le g points z j n e sigma p bound hp h =
 -- the bound of what is left, after an own action: the values of the shares' points, and their tails
 total-bound : (g : Numbers) (e m v count : ℕ) (points : ℕ → Point) (j : ℕ) → RowsAreFull g → PointKeeps g m v count (points j) → PointLoses g e m points j →
     (a : ℕ) → a < g.own_actions → (k tail : ℕ) →
-    total (λ o. total (λ share. pos share.weight *ℤ ((points share.point).value *ℤ pos k +ℤ pos (tail * belief_total g (points share.point)))) (shares_at (points j) a o)) (below g.observations)
-    ≡ pos k *ℤ total (λ o. total (λ share. pos share.weight *ℤ (points share.point).value) (shares_at (points j) a o)) (below g.observations)
+    total (λ o. total (λ share. pos share.weight *ℤ ((points share.member).value *ℤ pos k +ℤ pos (tail * belief_total g (points share.member)))) (shares_at (points j) a o)) (below g.observations)
+    ≡ pos k *ℤ total (λ o. total (λ share. pos share.weight *ℤ (points share.member).value) (shares_at (points j) a o)) (below g.observations)
     +ℤ pos (tail * (g.row_total * m * belief_total g (points j)))
 total-bound g e m v count points j full fit stand a la k tail =
     let shares = λ (o : ℕ). shares_at (points j) a o in
     let O = below g.observations in
-    let worth = λ (o : ℕ). total (λ share. pos share.weight *ℤ (points share.point).value) (shares o) in
-    let all = λ (o : ℕ). total (λ share. pos (share.weight * belief_total g (points share.point))) (shares o) in
+    let worth = λ (o : ℕ). total (λ share. pos share.weight *ℤ (points share.member).value) (shares o) in
+    let all = λ (o : ℕ). total (λ share. pos (share.weight * belief_total g (points share.member))) (shares o) in
     let masses : total all O ≡ pos (g.row_total * m * belief_total g (points j)) =
     total-below g.observations _ _ (λ o lo.
-    total-same _ (λ share. total (λ t. pos (share.weight * (points share.point).belief t)) (below g.states)) (shares o)
-    (each (λ share. ap (λ x. pos share.weight *ℤ x) (sym (total-pos (points share.point).belief (below g.states)))
-    ∙ sym (total-scale (pos share.weight) (λ t. pos ((points share.point).belief t)) (below g.states))) (shares o))
-    ∙ total-swap (λ share t. pos (share.weight * (points share.point).belief t)) (shares o) (below g.states)
+    total-same _ (λ share. total (λ t. pos (share.weight * (points share.member).belief t)) (below g.states)) (shares o)
+    (each (λ share. ap (λ x. pos share.weight *ℤ x) (sym (total-pos (points share.member).belief (below g.states)))
+    ∙ sym (total-scale (pos share.weight) (λ t. pos ((points share.member).belief t)) (below g.states))) (shares o))
+    ∙ total-swap (λ share t. pos (share.weight * (points share.member).belief t)) (shares o) (below g.states)
     ∙ total-below g.states _ (λ t. pos (mass g (points j) a o t)) (λ t lt.
-    total-pos (λ share. share.weight * (points share.point).belief t) (shares o) ∙ ap pos (stand.split a o t la lo lt)))
+    total-pos (λ share. share.weight * (points share.member).belief t) (shares o) ∙ ap pos (stand.split a o t la lo lt)))
     ∙ masses-total g m (points j) full fit.mixes_sum a la in
     total-below g.observations _ (λ o. pos k *ℤ worth o +ℤ pos tail *ℤ all o) (λ o lo.
-    total-same _ (λ share. pos k *ℤ (pos share.weight *ℤ (points share.point).value) +ℤ pos tail *ℤ pos (share.weight * belief_total g (points share.point))) (shares o)
-    (each (λ share. spread (pos share.weight) ((points share.point).value) (pos k) (pos tail) (pos (belief_total g (points share.point)))) (shares o))
+    total-same _ (λ share. pos k *ℤ (pos share.weight *ℤ (points share.member).value) +ℤ pos tail *ℤ pos (share.weight * belief_total g (points share.member))) (shares o)
+    (each (λ share. spread (pos share.weight) ((points share.member).value) (pos k) (pos tail) (pos (belief_total g (points share.member)))) (shares o))
     ∙ total-add _ _ (shares o)
-    ∙ ap (λ x. x +ℤ total (λ share. pos tail *ℤ pos (share.weight * belief_total g (points share.point))) (shares o))
-    (total-scale (pos k) (λ share. pos share.weight *ℤ (points share.point).value) (shares o))
-    ∙ ap (λ x. pos k *ℤ worth o +ℤ x) (total-scale (pos tail) (λ share. pos (share.weight * belief_total g (points share.point))) (shares o)))
+    ∙ ap (λ x. x +ℤ total (λ share. pos tail *ℤ pos (share.weight * belief_total g (points share.member))) (shares o))
+    (total-scale (pos k) (λ share. pos share.weight *ℤ (points share.member).value) (shares o))
+    ∙ ap (λ x. pos k *ℤ worth o +ℤ x) (total-scale (pos tail) (λ share. pos (share.weight * belief_total g (points share.member))) (shares o)))
     ∙ total-add _ _ O
     ∙ ap (λ x. x +ℤ total (λ o. pos tail *ℤ all o) O) (total-scale (pos k) worth O)
     ∙ ap (λ x. pos k *ℤ total worth O +ℤ x) (total-scale (pos tail) all O ∙ ap (λ x. pos tail *ℤ x) masses)
@@ -438,16 +439,16 @@ splitting-upper g e m v count z points full lm lz enough divide fits stand n₁ 
     (ap pos (power Q X n)) in
     let later = left-le g points z j n (pos e) sigma own.part bound own.same
     (λ a o u la lo lu.
-    each-from (λ share. share.point < count) _ (shares_at (points j) a o)
-    (λ share l. splitting-upper g e m v count z points full lm lz enough divide fits stand n₁ n share.point (own_branch n (sigma a o) u).1 l
+    each-from (λ share. share.member < count) _ (shares_at (points j) a o)
+    (λ share l. splitting-upper g e m v count z points full lm lz enough divide fits stand n₁ n share.member (own_branch n (sigma a o) u).1 l
     (each-at (λ (b : ℕ × OwnPlan n). IsOwnPlan g n₁ n b.1) (0, no_own_plan n) (sigma a o) u (own.rest a o la lo) lu))
     ((fits j lj).named a o la lo)) in
     let A = below g.own_actions in
     let B = belief_total g (points j) in
     let value = (points j).value in
     let mixed = λ (a : ℕ). total (λ s. total (λ c. pos ((points j).belief s * (points j).mixes s c) *ℤ g.reward s a c *ℤ pos (e * g.row_total * Q)) (below g.informed_actions)) (below g.states) in
-    let shared = λ (a : ℕ). total (λ o. total (λ share. pos share.weight *ℤ (points share.point).value) (shares_at (points j) a o)) (below g.observations) in
-    let bounds = λ (a : ℕ). total (λ o. total (λ share. pos share.weight *ℤ bound share.point) (shares_at (points j) a o)) (below g.observations) in
+    let shared = λ (a : ℕ). total (λ o. total (λ share. pos share.weight *ℤ (points share.member).value) (shares_at (points j) a o)) (below g.observations) in
+    let bounds = λ (a : ℕ). total (λ o. total (λ share. pos share.weight *ℤ bound share.member) (shares_at (points j) a o)) (below g.observations) in
     let most = pos K *ℤ (value *ℤ pos (m * g.row_total * Q)) +ℤ p *ℤ pos (tail * (g.row_total * m * B)) in
     let joined : total (λ a. pos (own.part a) *ℤ (pos z *ℤ (pos K *ℤ mixed a))) A +ℤ p *ℤ total (λ a. pos (own.part a) *ℤ (pos z *ℤ bounds a)) A
     ≡ total (λ a. pos (own.part a) *ℤ (pos z *ℤ (pos K *ℤ mixed a +ℤ p *ℤ bounds a))) A =
@@ -505,15 +506,15 @@ positive x = elim (eqb_tells x 0) [ inl e ↦ rw e.0 (omega arith) | inr e ↦ r
     some : (x : ℕ) → x ≢ 0 → 0 < x
     some x ne = omega arith
 
-product-positive : (xs : List ℕ) → 1 ≤ product_of_positive xs
+pub product-positive : (xs : List ℕ) → 1 ≤ product_of_positive xs
 product-positive [] = omega arith
 product-positive (x ∷ xs) = mul-pos (positive x) (product-positive xs)
 
 -- x is 0, or a factor of z
-record Divides (z x : ℕ) : Type 0 where
-  divides : x ≢ 0 → (k : ℕ) × (x * k ≡ z)
+pub record Divides (z x : ℕ) : Type 0 where
+  pub divides : x ≢ 0 → (k : ℕ) × (x * k ≡ z)
 
-product-divides : (xs : List ℕ) → AllByRecursion (Divides (product_of_positive xs)) xs
+pub product-divides : (xs : List ℕ) → AllByRecursion (Divides (product_of_positive xs)) xs
 product-divides [] = tt
 product-divides (x ∷ xs) = (
   record { divides = λ ne. (product_of_positive xs, head x (product_of_positive xs) ne) },

@@ -10,7 +10,7 @@ use Rattle.point_set.specs.Points.{Point, mass, shares_at}
 -- the plan of n stages that the node i stands for: after an own action and an observation one branch for each step
 abbrev pub own_plan : (ℕ → Node) → ℕ → (n : ℕ) → OwnPlan n
 own_plan nodes i zero = tt
-own_plan nodes i (suc n) = λ a o. map (λ step. (step.weight, own_plan nodes step.node n)) (steps_at (nodes i) a o)
+own_plan nodes i (suc n) = λ a o. map (λ step. (step.weight, own_plan nodes step.member n)) (steps_at (nodes i) a o)
 
 -- the product of the positive numbers of a list
 abbrev pub product_of_positive : List ℕ → ℕ
@@ -35,7 +35,7 @@ informed_plan g points z j s zero = tt
 informed_plan g points z j s (suc n) = λ c a o t.
     cond (mass g (points j) a o t == 0)
     (((points j).mixes s c * z, informed_plan g points z t t n) ∷ [])
-    (map (λ share. ((points j).mixes s c * share.weight * (points share.point).belief t * (z / mass g (points j) a o t), informed_plan g points z share.point t n))
+    (map (λ share. ((points j).mixes s c * share.weight * (points share.member).belief t * (z / mass g (points j) a o t), informed_plan g points z share.member t n))
     (shares_at (points j) a o))
 
 -- what player one's plan earns against the plans of a point, summed over the states by the point's belief

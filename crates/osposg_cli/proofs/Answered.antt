@@ -1,24 +1,27 @@
 -- An input has one answer, whatever the command.
 use Rattle.std.proofs.Common.{◌⊎◌, ℕ, ◌<◌, ◌≤◌, [], length, Some, None, refl, sym, ◌∙◌, arith, inl, inr}
 use Rattle.osposg_cli.specs.declared.words.Command.{Command}
-use Rattle.osposg_cli.specs.declared.words.Command.TheVariants.{Check, Floor}
+use Rattle.osposg_cli.specs.declared.words.Command.TheVariants.{Check, Floor, Show}
 use Rattle.osposg_cli.specs.Answer.{Answers, AnswersAreOne, InputsAreAnswered, IsWork, WorkIsDefined}
 use Rattle.osposg_cli.specs.Check.{AnswersCheck}
 use Rattle.osposg_cli.specs.Defined.{AreAnswered, IsAnswered, IsDefined}
 use Rattle.osposg_cli.specs.Floor.{AnswersFloor}
 use Rattle.osposg_cli.specs.Inputs.{most_input}
 use Rattle.osposg_cli.specs.Refusals.{words_refused}
+use Rattle.osposg_cli.specs.Show.{AnswersShow}
 use Rattle.osposg_cli.specs.declared.status.Status.TheVariants.{TooLong, WordsRefused}
 use Rattle.std.proofs.lemmas.Bool.{cases_order}
 
 -- by command
-pub work-defined : IsDefined AnswersFloor → IsDefined AnswersCheck → WorkIsDefined
-work-defined floor check Floor = floor
-work-defined floor check Check = check
+pub work-defined : IsDefined AnswersFloor → IsDefined AnswersCheck → IsDefined AnswersShow → WorkIsDefined
+work-defined floor check show Floor = floor
+work-defined floor check show Check = check
+work-defined floor check show Show = show
 
-pub work-some : AreAnswered AnswersFloor → AreAnswered AnswersCheck → (command : Command) → AreAnswered (IsWork command)
-work-some floor check Floor = floor
-work-some floor check Check = check
+pub work-some : AreAnswered AnswersFloor → AreAnswered AnswersCheck → AreAnswered AnswersShow → (command : Command) → AreAnswered (IsWork command)
+work-some floor check show Floor = floor
+work-some floor check show Check = check
+work-some floor check show Show = show
 
 -- whatever the command
 pub too-long : (n : ℕ) → most_input < n → n ≤ most_input → ⊥

@@ -7,13 +7,13 @@ use Rattle.scaled_num.proofs.Sums.{total-below}
 use Rattle.game_model.proofs.Games.{keeps-span}
 use Rattle.game_model.specs.Game.{GameData, IsGame, first_at, numbers, span}
 use Rattle.game_model.specs.Numbers.{product}
-use Rattle.game_model.specs.Seeds.{SeedsAreOne, SeedsEarn}
+use Rattle.game_model.specs.Seeds.{SeedsAreOne, SeedsEarn, SeedsExist}
 use Rattle.osposg_cli.specs.declared.status.Status.TheVariants.{Done}
 use Rattle.osposg_cli.specs.Defined.{HasText, IsAnswered, IsDefined, IsOne, IsTold}
 use Rattle.osposg_cli.specs.Floor.{AnswersFloor, FloorEarns, IsBound, IsFloor, KeepsFloor, floor_text}
 use Rattle.osposg_cli.specs.Inputs.{TextsAreExact}
 use Rattle.osposg_cli.proofs.Shared.{game-once, game-some, game-told}
-use Rattle.osposg_cli.proofs.SeedsExist.{floor-some}
+use Rattle.osposg_cli.proofs.BestAction.{floor-some}
 use Rattle.game_text.specs.Laws.{DecidedAlone}
 
 -- two vectors that agree at every state have one product
@@ -59,13 +59,13 @@ bound-once one g status other text more (a, x, floor, s, t) (b, y, next, r, m) =
 bound-told : (g : GameData) → IsTold (IsBound g)
 bound-told g status text (a, x, floor, s, t) = subst HasText (sym s) tt
 
-bound-some : (g : GameData) → IsGame g → IsAnswered (IsBound g)
-bound-some g game =
-    let floor = floor-some g game in
+bound-some : SeedsExist → (g : GameData) → IsGame g → IsAnswered (IsBound g)
+bound-some exist g game =
+    let floor = floor-some exist g game in
     (Done, floor_text g floor.0 floor.1, (floor.0, floor.1, floor.2, refl, refl))
 
-pub floor_answer-some : DecidedAlone → (input : List ℕ) → IsAnswered (AnswersFloor input)
-floor_answer-some decided = game-some decided IsBound bound-some
+pub floor_answer-some : SeedsExist → DecidedAlone → (input : List ℕ) → IsAnswered (AnswersFloor input)
+floor_answer-some exist decided = game-some decided IsBound (bound-some exist)
 
 pub floor-defined : SeedsAreOne → TextsAreExact → IsDefined AnswersFloor
 floor-defined one laws = record { one = game-once laws IsBound (λ g game. bound-once one g); told = game-told IsBound bound-told }

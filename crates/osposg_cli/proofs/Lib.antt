@@ -1,11 +1,11 @@
 pub mod Answered
 pub mod Bounds
 pub mod Choice
-pub mod Decisions
 pub mod Due
 pub mod FixedAction
 pub mod Places
 pub mod Rounded
-pub mod SeedsExist
+pub mod BestAction
 pub mod Shared
 pub mod Verdicts
+pub mod Shown

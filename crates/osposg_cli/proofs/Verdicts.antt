@@ -2,7 +2,7 @@
 use Rattle.std.proofs.Common.{◌≡◌, ◌⊎◌, ℕ, List, refl, sym, ap, ◌∙◌, subst, arith, inl, inr}
 use Rattle.std.specs.Prelude.{ℤ, pos, ◌≤ℤ◌, ◌<ℤ◌, ◌↔◌, ⊤}
 use Rattle.std.proofs.lemmas.Int.{ints}
-use Rattle.cert_check.specs.Verdicts.{FailingFalls, FailsOnce}
+use Rattle.cert_check.specs.Verdicts.{FailingFalls, FailsOnce, StandsOrFails}
 use Rattle.controller.proofs.Places.{rules}
 use Rattle.controller.specs.Certificates.{CertificateData, CertificateFits, CertificateStands, Closed, Ending, FailsFirst, FractionData, Full, IsShort, IsWithinGap, OutcomeHolds, Place, Trials}
 use Rattle.game_model.proofs.Games.{keeps-span}
@@ -17,7 +17,6 @@ use Rattle.osposg_cli.specs.Refusals.{no_text}
 use Rattle.osposg_cli.proofs.Places.{down-once, up-once}
 use Rattle.osposg_cli.specs.Inputs.{TextsAreExact}
 use Rattle.osposg_cli.proofs.Shared.{both-some, both-told, both_answer-once}
-use Rattle.osposg_cli.proofs.Decisions.{stands-or-fails}
 use Rattle.osposg_cli.proofs.Rounded.{down-some, up-some}
 use Rattle.game_text.specs.Laws.{Decided}
 use Rattle.scaled_num.specs.Printed.{fraction_text}
@@ -26,6 +25,7 @@ use Rattle.scaled_num.specs.Printed.{fraction_text}
 pub record FailingLaws : Type 0 where
   pub once : FailsOnce
   pub falls : FailingFalls
+  pub decided : StandsOrFails
 
 yes-once : (k : CertificateData) (text more : List ℕ) → (pos 0 <ℤ k.lower.den) → (pos 0 <ℤ k.upper.den) → (pos 0 <ℤ k.tail.den) → IsYesText k text → IsYesText k more → text ≡ more
 yes-once k text more l u t a b =
@@ -69,15 +69,15 @@ yes-some k l u t =
     let most = up-some k.tail.num k.tail.den (short-positive k.tail t) in
     (_, record { down = down.0; up = up.0; most = most.0; lower = down.1; upper = up.1; tail = most.1; same = refl })
 
-verdict-some : (g : GameData) (k : CertificateData) → CertificateFits g k → IsAnswered (IsVerdict g k)
-verdict-some g k fits = found (stands-or-fails g k fits)
+verdict-some : StandsOrFails → (g : GameData) (k : CertificateData) → CertificateFits g k → IsAnswered (IsVerdict g k)
+verdict-some decided g k fits = found (decided g k fits)
   where
     found : CertificateStands g k ⊎ ((place : Place) × FailsFirst g k place) → IsAnswered (IsVerdict g k)
     found (inl stands) = let yes = yes-some k fits.short.0 fits.short.1 fits.short.2 in (Done, yes.0, inl (stands, refl, yes.1))
     found (inr (place, fails)) = (No, no_text place, inr (place, fails, refl, refl))
 
-pub check-some : Decided → CertDecided → (input : List ℕ) → IsAnswered (AnswersCheck input)
-check-some games certificates = both-some games certificates IsVerdict (λ g k rest game for. verdict-some g k for.0)
+pub check-some : FailingLaws → Decided → CertDecided → (input : List ℕ) → IsAnswered (AnswersCheck input)
+check-some failing games certificates = both-some games certificates IsVerdict (λ g k rest game for. verdict-some failing.decided g k for.0)
 
 pub check-defined : FailingLaws → TextsAreExact → IsDefined AnswersCheck
 check-defined failing laws = record {

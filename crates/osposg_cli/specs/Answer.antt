@@ -4,17 +4,19 @@ use Rattle.hsvi_io.specs.Bytes.{GaveFront, GaveTooMany, Wrote, WroteFront}
 use Rattle.osposg_cli.specs.declared.status.Status.{Status}
 use Rattle.osposg_cli.specs.declared.status.Status.TheVariants.{Done, No, GameRefused, CertRefused, WordsRefused, ReadFault, WriteFault, OutOfMemory, TooLong}
 use Rattle.osposg_cli.specs.declared.words.Command.{Command}
-use Rattle.osposg_cli.specs.declared.words.Command.TheVariants.{Check, Floor}
+use Rattle.osposg_cli.specs.declared.words.Command.TheVariants.{Check, Floor, Show}
 use Rattle.osposg_cli.specs.Check.{AnswersCheck}
 use Rattle.osposg_cli.specs.Defined.{AreAnswered, HasText, IsDefined, IsOne}
 use Rattle.osposg_cli.specs.Floor.{AnswersFloor}
 use Rattle.osposg_cli.specs.Inputs.{most_input}
 use Rattle.osposg_cli.specs.Refusals.{words_refused}
+use Rattle.osposg_cli.specs.Show.{AnswersShow}
 
 -- what a command answers to an input that is not too long
 abbrev pub IsWork : Command → List ℕ → Status → List ℕ → Type 0
 IsWork Floor input status text = AnswersFloor input status text
 IsWork Check input status text = AnswersCheck input status text
+IsWork Show input status text = AnswersShow input status text
 
 -- each command's answer is defined
 abbrev pub WorkIsDefined : Type 0
@@ -79,3 +81,7 @@ IsGiven status text room old new result = ((result ≡ status) × Wrote room old
 -- a text of which this is true was written whole
 abbrev pub WroteOne : (List ℕ → Type 0) → ℕ → Option (List ℕ) → Option (List ℕ) → Type 0
 WroteOne P room old new = (text : List ℕ) × P text × Wrote room old new text
+
+-- a source or a sink was not touched: its bytes and its count are as before
+abbrev pub IsUntouched : Option (List ℕ) → Option (List ℕ) → ℕ → ℕ → Type 0
+IsUntouched old new faults_old faults_new = (new ≡ old) × (faults_new ≡ faults_old)

@@ -6,3 +6,4 @@ pub mod Floor
 pub mod Check
 pub mod Answer
 pub mod Codes
+pub mod Show

@@ -74,7 +74,8 @@ fn yes_text(alloc: Global, game: &Game, certificate: &Certificate) -> Result<Vec
 
 /// A fraction and its decimal places.
 fn placed(alloc: Global, fraction: &Fraction, places: &str) -> Result<String, AllocError>
-    ensures { IfOk result (λ text. string_bytes text ≡ placed (fraction_text fraction.now.num fraction.now.den) places.now) }
+    ensures { IfOk result (λ text.
+        string_bytes text ≡ placed (fraction_text fraction.now.num fraction.now.den) places.now) }
 {
     let fraction = print(alloc, fraction)?;
     spaced(alloc, &fraction, places)

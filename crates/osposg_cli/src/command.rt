@@ -1,12 +1,14 @@
 //! The top call: the words, the input, the work of the command, the text.
 ghost use Rattle.hsvi_io.specs.Bytes.{Wrote};
 ghost use Rattle.hsvi_io.specs.Causes.{Rose};
-ghost use Rattle.osposg_cli.specs.Answer.{Answers, AnswersAreOne, AnswersInput, Ends, InputsAreAnswered, IsDue, IsEarly, IsGiven, IsReadToEnd, IsWork, WorkIsDefined, WritesNothing, WroteOne};
+ghost use Rattle.osposg_cli.specs.Answer.{Answers, AnswersAreOne, AnswersInput, Ends, InputsAreAnswered, IsDue, IsEarly, IsGiven};
+ghost use Rattle.osposg_cli.specs.Answer.{IsReadToEnd, IsUntouched, IsWork, WorkIsDefined, WritesNothing, WroteOne};
 ghost use Rattle.osposg_cli.specs.Check.{CheckPromises};
 ghost use Rattle.osposg_cli.specs.Floor.{FloorPromises};
 ghost use Rattle.osposg_cli.specs.Inputs.{most_input};
+ghost use Rattle.osposg_cli.specs.Show.{ShowPromises};
 ghost use Rattle.osposg_cli.specs.Words.{named};
-ghost use Rattle.osposg_cli.specs.declared.words.Command.TheVariants.{Check, Floor};
+ghost use Rattle.osposg_cli.specs.declared.words.Command.TheVariants.{Check, Floor, Show};
 ghost use Rattle.std.specs.Prelude.{IfErr, IfOk, IfSome, IsErrOf, IsSome, List, None, OnOk, Some, ℕ, length, ◌≡◌, ◌≤◌};
 
 use crate::answer::Answer;
@@ -14,7 +16,7 @@ use crate::inputs::MOST_INPUT;
 use crate::refusals::words_refused;
 use crate::status::Status;
 use crate::words::{Command, parse};
-use crate::{check, floor};
+use crate::{check, floor, show};
 use hsvi_io::{ReadEnd, Sink, Source, read_all, write_all};
 use std::alloc::{AllocError, Global};
 
@@ -37,24 +39,33 @@ pub fn run<I: Source, O: Sink>(
     ensures reads_later { I.faults input.old ≤ I.faults input.new }
     ensures writes_later { O.faults output.old ≤ O.faults output.new }
     // Where nothing is written, the sink is untouched.
-    ensures unwritten { WritesNothing result → (O.written output.new ≡ O.written output.old) × (O.faults output.new ≡ O.faults output.old) }
+    ensures unwritten { WritesNothing result →
+        IsUntouched (O.written output.old) (O.written output.new) (O.faults output.old) (O.faults output.new) }
     // Where the words name no command, the source is untouched.
-    ensures unread { named words.now ≡ None → (I.left input.new ≡ I.left input.old) × (I.faults input.new ≡ I.faults input.old) }
+    ensures unread { named words.now ≡ None →
+        IsUntouched (I.left input.old) (I.left input.new) (I.faults input.old) (I.faults input.new) }
     // Every input has an answer. Where no count rose, it is given and written whole; only want of memory may come in its
     // place, and then nothing is written.
-    ensures complete { IfSome (I.left input.old) (λ bytes. (status : Status) × (text : List ℕ) × Answers (named words.now) bytes status text
+    ensures complete { IfSome (I.left input.old) (λ bytes.
+        (status : Status) × (text : List ℕ) × Answers (named words.now) bytes status text
         × (¬ (Rose (I.faults input.old) (I.faults input.new)) → ¬ (Rose (O.faults output.old) (O.faults output.new))
         → IsGiven status text (O.room output.old) (O.written output.old) (O.written output.new) result)) }
-    // What `floor` promises: the printed action earns the printed bound less the tail, against every plan of the informed player.
+    // What `floor` promises: the printed action earns the printed bound less the tail, against every plan of the informed
+    // player.
     ensures floor_earns { result ≡ Status.Done → named words.now ≡ Some Floor → IfSome (I.left input.old)
         (λ bytes. WroteOne (FloorPromises bytes) (O.room output.old) (O.written output.old) (O.written output.new)) }
-    // What a yes of `check` promises: the bytes spell a game and a certificate, whose bounds are printed, and both halves hold of it.
+    // What a yes of `check` promises: the bytes spell a game and a certificate, whose bounds are printed, and both halves
+    // hold of it.
     ensures check_proves { result ≡ Status.Done → named words.now ≡ Some Check → IfSome (I.left input.old)
         (λ bytes. WroteOne (CheckPromises bytes) (O.room output.old) (O.written output.old) (O.written output.new)) }
+    // What `show` promises: the text that is written spells the game that was read, and is shown as it is.
+    ensures show_spells { result ≡ Status.Done → named words.now ≡ Some Show → IfSome (I.left input.old)
+        (λ bytes. WroteOne (ShowPromises bytes) (O.room output.old) (O.written output.old) (O.written output.new)) }
 {
     law_answers();
     floor::law_floor();
     check::law_check();
+    show::law_show();
     match answer_to(alloc, words, input) {
         Ok(answer) => match write_all(output, &answer.text) {
             Ok(()) => answer.status,
@@ -72,6 +83,7 @@ pub fn law_answers()
 {
     floor::law_floor();
     check::law_check();
+    show::law_show();
 }
 
 /// What is to be written, or how the run ends before there is a text.
@@ -81,7 +93,8 @@ fn answer_to<I: Source>(alloc: Global, words: &[String], input: &mut I) -> Resul
     ensures early { IfErr result (λ status. IsEarly (named words.now) (I.left input.old) (I.left input.new) status) }
     ensures read_fault { IsErrOf result Status.ReadFault → Rose (I.faults input.old) (I.faults input.new) }
     ensures reads_later { I.faults input.old ≤ I.faults input.new }
-    ensures unread { named words.now ≡ None → (I.left input.new ≡ I.left input.old) × (I.faults input.new ≡ I.faults input.old) }
+    ensures unread { named words.now ≡ None →
+        IsUntouched (I.left input.old) (I.left input.new) (I.faults input.old) (I.faults input.new) }
 {
     law_answers();
     let Some(command) = parse(words) else {
@@ -103,5 +116,6 @@ fn work(alloc: Global, command: Command, bytes: &[u8]) -> Result<Answer, AllocEr
     match command {
         Command::Floor => floor::work(alloc, bytes),
         Command::Check => check::work(alloc, bytes),
+        Command::Show => show::work(alloc, bytes),
     }
 }

@@ -3,11 +3,13 @@ ghost use Rattle.game_model.specs.Game.{IsGame, first_at, numbers, span};
 ghost use Rattle.game_model.specs.Numbers.{product};
 ghost use Rattle.game_model.specs.Seeds.{IsSeed};
 ghost use Rattle.osposg_cli.specs.Defined.{AreAnswered, IsDefined};
-ghost use Rattle.osposg_cli.specs.Floor.{AnswersFloor, IsBound, IsFloor, IsSeedProduct, KeepsFloor, floor_lines, floor_text};
+ghost use Rattle.osposg_cli.specs.Floor.{AnswersFloor, IsBound, IsFloor, IsSeedProduct, KeepsFloor, floor_lines};
+ghost use Rattle.osposg_cli.specs.Floor.{floor_text};
 ghost use Rattle.osposg_cli.specs.Inputs.{most_input};
 ghost use Rattle.scaled_num.specs.Sums.{below, total};
 ghost use Rattle.std.specs.List.{AllByRecursion};
-ghost use Rattle.std.specs.Prelude.{IfOk, ℕ, ℤ, length, pos, slice_index_or, unsigned_abs, ◌*ℤ◌, ◌<ℤ◌, ◌<◌, ◌^◌, ◌≡◌, ◌≤◌};
+ghost use Rattle.std.specs.Prelude.{IfOk, ℕ, ℤ, length, pos, slice_index_or, unsigned_abs, ◌*ℤ◌, ◌<ℤ◌, ◌<◌, ◌^◌};
+ghost use Rattle.std.specs.Prelude.{◌≡◌, ◌≤◌};
 ghost use Rattle.std.specs.String.{string_bytes};
 ghost use Rattle.scaled_num.specs.Printed.{fraction_text};
 

@@ -1,7 +1,8 @@
 //! What commands share in reading their input: a game alone, or a game and a certificate at once after it.
 ghost use Rattle.cert_text.specs.Answers.{IsTextFor};
 ghost use Rattle.game_text.specs.Text.{IsTextOf};
-ghost use Rattle.osposg_cli.specs.Inputs.{IsTextOfBoth, RefusesBoth, RefusesGame, RefusesRest, TextsAreExact, most_input};
+ghost use Rattle.osposg_cli.specs.Inputs.{IsTextOfBoth, RefusesBoth, RefusesGame, RefusesRest, TextsAreExact};
+ghost use Rattle.osposg_cli.specs.Inputs.{most_input};
 ghost use Rattle.std.specs.Prelude.{IfOk, MatchResult, [], length, ◌≤◌};
 
 use crate::answer::Given;

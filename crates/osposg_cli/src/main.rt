@@ -8,6 +8,9 @@ mod command;
 mod floor;
 mod inputs;
 mod refusals;
+mod show;
+#[cfg(test)]
+mod start_tests;
 mod status;
 #[cfg(test)]
 mod tests;

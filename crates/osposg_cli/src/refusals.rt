@@ -12,7 +12,8 @@ use std::alloc::{AllocError, Global};
 
 /// The answer where the words name no command.
 pub fn words_refused(alloc: Global) -> Result<Answer, AllocError>
-    ensures { IfOk result (λ answer. (answer.status ≡ Status.WordsRefused) × (answer.text.items ≡ words_refused)) }
+    ensures { IfOk result (λ answer.
+        (answer.status ≡ Status.WordsRefused) × (answer.text.items ≡ words_refused)) }
 {
     Ok(Answer {
         status: Status::WordsRefused,
@@ -22,7 +23,8 @@ pub fn words_refused(alloc: Global) -> Result<Answer, AllocError>
 
 /// The answer to a game text whose first refused line, counted from 1, is this one.
 pub fn game_refused(alloc: Global, line: u32, kind: Kind) -> Result<Answer, AllocError>
-    ensures { IfOk result (λ answer. (answer.status ≡ Status.GameRefused) × (answer.text.items ≡ game_refused line kind)) }
+    ensures { IfOk result (λ answer.
+        (answer.status ≡ Status.GameRefused) × (answer.text.items ≡ game_refused line kind)) }
 {
     let number = kind.number();
     Ok(Answer {
@@ -33,7 +35,8 @@ pub fn game_refused(alloc: Global, line: u32, kind: Kind) -> Result<Answer, Allo
 
 /// The answer to a certificate text whose first refused line, counted from 1, is this one.
 pub fn cert_refused(alloc: Global, line: u32, kind: CertKind) -> Result<Answer, AllocError>
-    ensures { IfOk result (λ answer. (answer.status ≡ Status.CertRefused) × (answer.text.items ≡ cert_refused line kind)) }
+    ensures { IfOk result (λ answer.
+        (answer.status ≡ Status.CertRefused) × (answer.text.items ≡ cert_refused line kind)) }
 {
     let number = kind.number();
     Ok(Answer {
@@ -44,7 +47,8 @@ pub fn cert_refused(alloc: Global, line: u32, kind: CertKind) -> Result<Answer, 
 
 /// The answer to a certificate that does not stand: the first place that fails.
 pub fn no(alloc: Global, reason: &Reason) -> Result<Answer, AllocError>
-    ensures { IfOk result (λ answer. (answer.status ≡ Status.No) × (answer.text.items ≡ no_text (place_of reason.now))) }
+    ensures { IfOk result (λ answer.
+        (answer.status ≡ Status.No) × (answer.text.items ≡ no_text (place_of reason.now))) }
 {
     let text = match *reason {
         Reason::Node { i, s, c } => format!(in alloc; "no node {i} state {s} action {c}\n")?,

@@ -50,7 +50,63 @@ const THREE_CERTIFICATE: [&str; 18] = [
     "end",
 ];
 
+/// Matching pennies in one state, without a future.
+const PENNIES: [&str; 14] = [
+    "osposg 1",
+    "size 1 2 2 1",
+    "total 1",
+    "discount 0 1",
+    "first 1",
+    "step 0 0 0 1",
+    "out 0 0 1",
+    "step 0 0 1 -1",
+    "out 0 0 1",
+    "step 0 1 0 -1",
+    "out 0 0 1",
+    "step 0 1 1 1",
+    "out 0 0 1",
+    "end",
+];
+
+/// A certificate that closes its gap, by even mixes of both players.
+const PENNIES_CERTIFICATE: [&str; 30] = [
+    "certificate 1",
+    "outcome closed",
+    "gap 1/100",
+    "lower 0/65536",
+    "upper 0/65536",
+    "tail 65536/65536",
+    "sizes 2 2",
+    "start 1 1",
+    "node 0",
+    "vector -65536",
+    "mix 65536 0",
+    "next 0 0 0 65536",
+    "node 1",
+    "vector 0",
+    "mix 32768 32768",
+    "next 0 0 0 32768",
+    "next 1 0 0 32768",
+    "point 0",
+    "belief 1",
+    "value 65536",
+    "mix 0 65536 0",
+    "split 0 0 0 65536",
+    "split 1 0 0 65536",
+    "point 1",
+    "belief 1",
+    "value 0",
+    "mix 0 32768 32768",
+    "split 0 0 0 65536",
+    "split 1 0 0 65536",
+    "end",
+];
+
 /// What `check` writes of it.
+const PENNIES_YES: &str =
+    "yes\nlower 0/65536 0.000000\nupper 0/65536 0.000000\ntail 65536/65536 1.000000\n";
+
+/// What `check` writes of the certificate of three halved.
 const THREE_YES: &str =
     "yes\nlower 393216/65536 6.000000\nupper 393216/65536 6.000000\ntail 393216/65536 6.000000\n";
 
@@ -58,7 +114,7 @@ const THREE_YES: &str =
 const FIVE_BOUND: &str = "action 0\nlower 327680/65536\ntail 327680/65536\n";
 
 /// A text of these lines.
-fn text_of(alloc: Global, lines: &[&str]) -> Result<String, Fail> {
+pub fn text_of(alloc: Global, lines: &[&str]) -> Result<String, Fail> {
     let mut text = String::new(alloc);
     for line in lines {
         text.push_str(line)?;
@@ -68,7 +124,7 @@ fn text_of(alloc: Global, lines: &[&str]) -> Result<String, Fail> {
 }
 
 /// The text of these lines with one of them changed; lines are counted from 1.
-fn changed(alloc: Global, lines: &[&str], number: usize, line: &str) -> Result<String, Fail> {
+pub fn changed(alloc: Global, lines: &[&str], number: usize, line: &str) -> Result<String, Fail> {
     let mut text = String::new(alloc);
     for (place, old) in lines.iter().enumerate() {
         text.push_str(if place + 1 == number { line } else { old })?;
@@ -78,7 +134,7 @@ fn changed(alloc: Global, lines: &[&str], number: usize, line: &str) -> Result<S
 }
 
 /// One text after another.
-fn joined(alloc: Global, game: &str, certificate: &str) -> Result<String, Fail> {
+pub fn joined(alloc: Global, game: &str, certificate: &str) -> Result<String, Fail> {
     let mut text = String::from_str(alloc, game)?;
     text.push_str(certificate)?;
     Ok(text)
@@ -94,7 +150,7 @@ fn words(alloc: Global, texts: &[&str]) -> Result<Vec<String>, Fail> {
 }
 
 /// The status of a run over ends that never fail, and whether it writes just this text.
-fn answered(
+pub fn answered(
     alloc: Global,
     command: &[&str],
     input: &[u8],
@@ -197,6 +253,25 @@ fn other_words_are_refused_and_nothing_is_read(rt: HostRuntime) -> Result<(), Fa
     Ok(())
 }
 
+#[test]
+fn show_writes_the_canonical_text(rt: HostRuntime) -> Result<(), Fail> {
+    let alloc = rt.alloc();
+    let five = text_of(alloc, &FIVE_EACH_TIME)?;
+    let multiple = changed(alloc, &FIVE_EACH_TIME, 5, "first 3")?;
+    assert!(rt; answered(alloc, &["show"], five.as_bytes(), &five)? == (Status::Done, true));
+    assert!(rt; answered(alloc, &["show"], multiple.as_bytes(), &five)? == (Status::Done, true));
+    let twice = joined(alloc, &five, &five)?;
+    assert!(rt;
+        answered(
+            alloc,
+            &["show"],
+            twice.as_bytes(),
+            "game refused: line 9 kind 10\n"
+        )? == (Status::GameRefused, true)
+    );
+    Ok(())
+}
+
 /// A game of full size in which each stage gives 5 and nothing comes after it. Each row has a landing for each
 /// observation and next state.
 fn great_text(alloc: Global) -> Result<String, Fail> {
@@ -278,15 +353,32 @@ fn a_certificate_that_stands_is_answered_with_its_bounds(rt: HostRuntime) -> Res
 }
 
 #[test]
+fn even_mixes_of_matching_pennies_close_the_gap(rt: HostRuntime) -> Result<(), Fail> {
+    let alloc = rt.alloc();
+    let game = text_of(alloc, &PENNIES)?;
+    let input = joined(alloc, &game, &text_of(alloc, &PENNIES_CERTIFICATE)?)?;
+    assert!(rt;
+        answered(alloc, &["check"], input.as_bytes(), PENNIES_YES)? == (Status::Done, true)
+    );
+    Ok(())
+}
+
+#[test]
 fn changed_certificates_are_refused_or_fail_first(rt: HostRuntime) -> Result<(), Fail> {
     let alloc = rt.alloc();
     let game = text_of(alloc, &THREE_HALVED)?;
     let answers = [
         (
             1,
-            "certificate 2",
+            "certificate 3",
             Status::CertRefused,
             "certificate refused: line 1 kind 1\n",
+        ),
+        (
+            1,
+            "certificate 2",
+            Status::CertRefused,
+            "certificate refused: line 8 kind 2\n",
         ),
         (
             2,

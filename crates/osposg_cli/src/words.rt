@@ -9,6 +9,8 @@ pub enum Command {
     Floor,
     /// The verdict on a certificate.
     Check,
+    /// The canonical text of a game.
+    Show,
 }
 
 /// The command that the words name, without the program's own name; `None` where they name none.
@@ -19,6 +21,7 @@ pub fn parse(words: &[String]) -> Option<Command>
     match words {
         [word] if word.as_str() == "floor" => Some(Command::Floor),
         [word] if word.as_str() == "check" => Some(Command::Check),
+        [word] if word.as_str() == "show" => Some(Command::Show),
         _ => None,
     }
 }

@@ -24,3 +24,4 @@ pub mod BestExample
 pub mod FirstBest
 pub mod ToothSplits
 pub mod Spanned
+pub mod Failing

@@ -9,7 +9,8 @@ use Rattle.std.proofs.lemmas.Nat.{mul-le}
 use Rattle.std.proofs.lemmas.List.{get_or-map}
 use Rattle.std.proofs.lemmas.List.Sums.{sum_by_more}
 use Rattle.scaled_num.proofs.Sums.{each-at, sum_by-map}
-use Rattle.game_model.specs.Branches.{Branch, IsBranch, branch_of}
+use Rattle.game_model.specs.Branches.{Branch, Continuation, IsBranch, branch_of, continuation_of, continuations_at}
+use Rattle.game_model.proofs.Continuations.{continuations-are, filter-map}
 use Rattle.game_model.specs.Numbers.{Numbers}
 use Rattle.game_model.proofs.Pay.{each-from}
 use Rattle.belief.proofs.Landings.{each-filter}
@@ -17,7 +18,7 @@ use Rattle.game_model.specs.Game.{GameData, IsWithin, numbers}
 use Rattle.game_model.proofs.Front.{length-map}
 use Rattle.belief.proofs.Sums.{magnitude-small}
 use Rattle.point_set.specs.Members.{IsAfter, IsMember, IsNamed, brought, data_of, most_points, point_data}
-use Rattle.point_set.specs.Points.{Point, PointFits, Share, SplitHolds, mass, most_share, no_point, point_of, points_of, share_of, shared}
+use Rattle.point_set.specs.Points.{Point, PointFits, SplitHolds, mass, most_share, no_point, point_of, points_of, shared}
 use Rattle.point_set.specs.declared.points.Point.{Point as PointParts}
 use Rattle.game_model.specs.declared.branches.Branch.{Branch as ShareParts}
 use Rattle.point_set.proofs.Shares.{few-shares, no_share}
@@ -67,19 +68,13 @@ next-share points xs i s y z l few weights wy e is small =
     }
 
 -- the shares after an own action and an observation, as the rules see them
-pub shares-at : (xs : List ShareParts) (a o : ℕ) → filter (λ (share : Share). (share.own == a) && (share.seen == o)) (map share_of (map branch_of xs)) ≡ map share_of (map branch_of (filter (IsAfter a o) xs))
-shares-at [] a o = refl
-shares-at (x ∷ xs) a o =
-    elim (IsAfter a o x) as (λ b. cond b (share_of (branch_of x) ∷ filter (λ (share : Share). (share.own == a) && (share.seen == o)) (map share_of (map branch_of xs))) (filter (λ (share : Share). (share.own == a) && (share.seen == o)) (map share_of (map branch_of xs)))
-    ≡ map share_of (map branch_of (cond b (x ∷ filter (IsAfter a o) xs) (filter (IsAfter a o) xs)))) [
-      | true ↦ ap (λ (ys : List Share). share_of (branch_of x) ∷ ys) (shares-at xs a o)
-      | false ↦ shares-at xs a o
-    ]
+pub shares-at : (xs : List ShareParts) (a o : ℕ) → continuations_at (map continuation_of (map branch_of xs)) a o ≡ map continuation_of (map branch_of (filter (IsAfter a o) xs))
+shares-at xs a o = continuations-are (map branch_of xs) a o ∙ ap (map continuation_of) (filter-map branch_of (λ b. (b.own == a) && (b.seen == o)) xs)
 
 pub shared-is : (points : ℕ → Point) (p : PointParts) (a o t : ℕ) → shared points (point_of (point_data p)) a o t ≡ sum_by (brought points t) (filter (IsAfter a o) p.splits.items)
 shared-is points p a o t =
-    ap (sum_by (λ (share : Share). share.weight * (points share.point).belief t)) (shares-at p.splits.items a o)
-    ∙ sum_by-map (λ (share : Share). share.weight * (points share.point).belief t) share_of (map branch_of (filter (IsAfter a o) p.splits.items))
+    ap (sum_by (λ (share : Continuation). share.weight * (points share.member).belief t)) (shares-at p.splits.items a o)
+    ∙ sum_by-map (λ (share : Continuation). share.weight * (points share.member).belief t) continuation_of (map branch_of (filter (IsAfter a o) p.splits.items))
     ∙ sum_by-map (λ (b : Branch). unsigned_abs b.weight * (points b.member).belief t) branch_of (filter (IsAfter a o) p.splits.items)
 
 -- what the shares of a point keep

@@ -9,7 +9,7 @@ use Rattle.std.proofs.lemmas.Nat.{mul-le}
 use Rattle.scaled_num.specs.Sums.{below, total, sum_of}
 use Rattle.scaled_num.proofs.Products.{products, sums, abs-add, magnitude-is}
 use Rattle.scaled_num.proofs.Sums.{below-each, total-below, total-map, total-same, total-scale}
-use Rattle.game_model.specs.Branches.{Branch, IsBranch, branch_of, mix_total}
+use Rattle.game_model.specs.Branches.{Branch, Continuation, IsBranch, branch_of, continuation_of, mix_total}
 use Rattle.game_model.specs.Game.{GameData, IsGame, IsNarrow, IsRewardInRange, IsWithin, greatest_reward, numbers, reward_at, span, triple, unit}
 use Rattle.game_model.specs.declared.parts.Shape.{Shape}
 use Rattle.game_model.proofs.Games.{keeps-span, max-bound, place-lt}
@@ -23,7 +23,7 @@ use Rattle.belief.specs.Beliefs.{mix_weight, weight_at}
 use Rattle.belief.specs.Mixes.{AreMixes, MixesData}
 use Rattle.point_set.specs.Faults.{SplitsHold}
 use Rattle.point_set.specs.Members.{IsAfter, IsMember, IsNamed, brought, counted, counted_after, counted_size, data_of, most_points, point_data, row_rewards}
-use Rattle.point_set.specs.Points.{Point, PointFits, Share, most_share, point_of, point_worth, points_of, share_of, shares_at}
+use Rattle.point_set.specs.Points.{Point, PointFits, most_share, point_of, point_worth, points_of, shares_at}
 use Rattle.point_set.specs.declared.points.Point.{Point as PointParts}
 use Rattle.game_model.specs.declared.branches.Branch.{Branch as ShareParts}
 use Rattle.point_set.proofs.Masses.{belief-total, masses-sum, mix-total, shares-size, sum-below-same, sum-below-scaled}
@@ -203,14 +203,14 @@ rewards-are g k p a =
     turn k b m r = simp products (omega (arith, sums))
 
 counted-are : (g : GameData) (points : ℕ → Point) (p : PointParts) → PointFits g most_points (point_data p) → (a : ℕ) →
-    counted_after points p.splits.items g.shape.observations a ≡ total (λ o. total (λ (share : Share). pos share.weight *ℤ (points share.point).value) (shares_at (point_of (point_data p)) a o)) (below g.shape.observations)
+    counted_after points p.splits.items g.shape.observations a ≡ total (λ o. total (λ (share : Continuation). pos share.weight *ℤ (points share.member).value) (shares_at (point_of (point_data p)) a o)) (below g.shape.observations)
 counted-are g points p fits a =
     total-below g.shape.observations _ _ (λ o lo.
     total-same (counted points) (λ (w : ShareParts). pos (unsigned_abs w.weight) *ℤ (points w.k).value) (filter (IsAfter a o) p.splits.items)
     (each-filter _ (IsAfter a o) p.splits.items (each-from (λ (w : ShareParts). IsBranch (numbers g) most_points most_share (branch_of w)) _ p.splits.items (λ w i.
     ap (λ (z : ℤ). z *ℤ (points w.k).value) (positive w.weight i.weight.0)) (each-of-map (IsBranch (numbers g) most_points most_share) branch_of p.splits.items fits.splits.each)))
-    ∙ sym (ap (total (λ (share : Share). pos share.weight *ℤ (points share.point).value)) (shares-at p.splits.items a o)
-    ∙ total-map (λ (share : Share). pos share.weight *ℤ (points share.point).value) share_of (map branch_of (filter (IsAfter a o) p.splits.items))
+    ∙ sym (ap (total (λ (share : Continuation). pos share.weight *ℤ (points share.member).value)) (shares-at p.splits.items a o)
+    ∙ total-map (λ (share : Continuation). pos share.weight *ℤ (points share.member).value) continuation_of (map branch_of (filter (IsAfter a o) p.splits.items))
     ∙ total-map (λ (b : Branch). pos (unsigned_abs b.weight) *ℤ (points b.member).value) branch_of (filter (IsAfter a o) p.splits.items)))
   where
     positive : (x : ℤ) → pos 1 ≤ℤ x → x ≡ pos (unsigned_abs x)

@@ -62,7 +62,8 @@ fn write_gaps(points: &[Point], values: &[i128; MOST_STATES], first: usize, gaps
     requires count { length gaps.old ≡ length points.now }
     ensures count { length gaps.new ≡ length gaps.old }
     ensures before { (i : ℕ) → i < first → at gaps.new i ≡ at gaps.old i }
-    ensures each { (i : ℕ) → first ≤ i → i < length points.now → IsGap values.now (point_at (data_of points.now) i) (at gaps.new i) }
+    ensures each { (i : ℕ) → first ≤ i → i < length points.now →
+        IsGap values.now (point_at (data_of points.now) i) (at gaps.new i) }
 {
     for i in first..points.len() {
         gaps[i] = gap_of(&points[i], values);

@@ -8,8 +8,6 @@ mod points;
 mod sawtooth;
 mod sets;
 mod split;
-#[cfg(test)]
-mod split_tests;
 mod splits;
 mod stands;
 mod takes;

@@ -58,9 +58,13 @@ impl Model for PointSet {
 
     ghost Value = { SetData PointData };
 
-    ghost view = { λ set. record { members = map point_data set.points.items; spare = vec_capacity set.gaps - vec_len set.gaps } };
+    ghost view = { λ set. record {
+      members = map point_data set.points.items;
+      spare = vec_capacity set.gaps - vec_len set.gaps;
+    } };
 
-    ghost invariant = { λ set. IsKept (map point_data set.points.items) set.corners set.gaps.items × (vec_capacity set.gaps ≤ vec_capacity set.points) };
+    ghost invariant = { λ set. IsKept (map point_data set.points.items) set.corners set.gaps.items
+        × (vec_capacity set.gaps ≤ vec_capacity set.points) };
 }
 
 impl PointSet {
@@ -134,8 +138,8 @@ impl PointSet {
         make_room(&mut self.points, &mut self.gaps, more as usize)
     }
 
-    /// The current corner of state `s`: the first point of least value among those whose belief is sure of `s`. It takes
-    /// no memory.
+    /// The current corner of state `s`: the first point of least value among those whose belief is sure of `s`. It
+    /// takes no memory.
     pub fn corner(&self, s: u32) -> u32
         requires { HasCorner self.now.members s }
         ensures { IsCurrentCorner self.now.members s result }
@@ -160,7 +164,8 @@ impl PointSet {
     pub fn sawtooth(&self, mass: &[i128]) -> i128
         requires { AreMeasured self.now.members mass.now }
         ensures sawtooth { IsSawtooth self.now.members mass.now result }
-        ensures bounded { (measured : AreMeasured self.now.members mass.now) → IsWithinSpan measured.game mass.now result }
+        ensures bounded { (measured : AreMeasured self.now.members mass.now) →
+            IsWithinSpan measured.game mass.now result }
     {
         least_bound(&self.points, &self.corners, &self.gaps, mass).value
     }
@@ -211,9 +216,12 @@ impl PointSet {
     pub fn stands(&self, game: &Game, j: u32) -> Option<PointFault>
         requires member { j < length self.now.members }
         requires fits { AllByRecursion (PointFits game.now most_points) self.now.members }
-        requires named { AllByRecursion (λ share. share.member < length self.now.members) (slice_index_or self.now.members j no_point).splits }
-        ensures none { IsNone result ↔ PointStands (numbers game.now) (points_of self.now.members) (points_of self.now.members j) }
-        ensures first { IfSome result (FailsFirst (numbers game.now) (points_of self.now.members) (points_of self.now.members j)) }
+        requires named { AllByRecursion (λ share. share.member < length self.now.members)
+            (slice_index_or self.now.members j no_point).splits }
+        ensures none { IsNone result ↔ PointStands (numbers game.now) (points_of self.now.members)
+            (points_of self.now.members j) }
+        ensures first { IfSome result (FailsFirst (numbers game.now) (points_of self.now.members)
+            (points_of self.now.members j)) }
     {
         first_fault(game, &self.points, &self.points[j as usize])
     }
@@ -225,9 +233,11 @@ impl PointSet {
         requires own { a < game.now.shape.own_actions }
         requires fits { AllByRecursion (PointFits game.now most_points) self.now.members }
         requires point { PointFits game.now most_points (point_data point.now) }
-        requires named { AllByRecursion (λ share. share.member < length self.now.members) (point_data point.now).splits }
+        requires named { AllByRecursion (λ share. share.member < length self.now.members)
+            (point_data point.now).splits }
         requires splits { SplitsHold (numbers game.now) (points_of self.now.members) (point_of (point_data point.now)) }
-        ensures { result ≡ point_worth (numbers game.now) (points_of self.now.members) (point_of (point_data point.now)) a }
+        ensures { result
+            ≡ point_worth (numbers game.now) (points_of self.now.members) (point_of (point_data point.now)) a }
     {
         worth_after(game, &self.points, point, a)
     }

@@ -137,12 +137,14 @@ fn take_wanted(
     requires mass { AllByRecursion (λ x. pos 0 ≤ℤ x) rest.old }
     requires sum { sum_of rest.old ≤ℤ most_share }
     requires empty { out.old ≡ [] }
-    ensures taken { AreTaken (data_of points.now) (map (λ want. want.0) wanted.now) shares.now rest.old rest.new out.new }
+    ensures taken { AreTaken (data_of points.now) (map (λ want. want.0) wanted.now) shares.now rest.old rest.new
+        out.new }
     ensures items { AreItems (data_of points.now) rest.old (at rest.new) out.new }
     ensures mass { AllByRecursion (λ x. pos 0 ≤ℤ x) rest.new }
     ensures places { length rest.new ≡ length rest.old }
     ensures sum { sum_of rest.new ≤ℤ sum_of rest.old }
-    ensures others { (corners : ℕ → ℕ) → others corners (length rest.old) out.new ≤ others corners (length rest.old) wanted.now }
+    ensures others { (corners : ℕ → ℕ) → others corners (length rest.old) out.new
+        ≤ others corners (length rest.old) wanted.now }
 {
     for (index, want) in wanted.iter().enumerate() {
         let times = take(&points[want.0 as usize].belief, shares[index], rest);

@@ -2,11 +2,11 @@
 
 ghost use Rattle.game_model.specs.Branches.{AreRising, branch_of};
 ghost use Rattle.game_model.specs.Game.{IsWithin, numbers};
-ghost use Rattle.point_set.specs.Faults.{FailsFirstAfter, FailsFirstAt, SplitFailsFirst, SplitsHold};
-ghost use Rattle.point_set.specs.Members.{IsAfter, IsMember, IsNamed, brought, data_of, most_points, point_data};
-ghost use Rattle.point_set.specs.Points.{PointFits, SplitHolds, most_share, point_of, points_of};
+ghost use Rattle.point_set.specs.Faults.{split_place, split_places, split_places_after, split_places_seen};
+ghost use Rattle.point_set.specs.Members.{AllHoldAmong, FailsFirstAmong, IsAfter, IsMember, IsNamed, brought, data_of, most_points};
+ghost use Rattle.point_set.specs.Points.{PointFits, most_share, points_of};
 ghost use Rattle.std.specs.List.{AllByRecursion};
-ghost use Rattle.std.specs.Prelude.{IfSome, IsNone, filter, length, map, pos, sum_by, ℕ, ◌<◌, ◌≡◌, ◌≤◌};
+ghost use Rattle.std.specs.Prelude.{IfSome, IsNone, filter, length, map, pos, sum_by, ◌<◌, ◌≡◌, ◌≤◌};
 
 use crate::points::Point;
 use belief::mass;
@@ -15,8 +15,9 @@ use game_model::{Branch, Game, MOST_STATES, law_game};
 /// The first place at which the split rule fails, by own action, observation and next state.
 pub fn first_split(game: &Game, points: &[Point], point: &Point) -> Option<(u32, u32, u32)>
     requires { IsMember game.now points.now point.now }
-    ensures none { IsNone result → SplitsHold (numbers game.now) (points_of (data_of points.now)) (point_of (point_data point.now)) }
-    ensures first { IfSome result (λ place. SplitFailsFirst (numbers game.now) (points_of (data_of points.now)) (point_of (point_data point.now)) place.0 place.1 place.2) }
+    ensures none { IsNone result → AllHoldAmong game.now points.now point.now (split_places (numbers game.now)) }
+    ensures first { IfSome result (λ place. FailsFirstAmong game.now points.now point.now
+        (split_places (numbers game.now)) (split_place place)) }
 {
     for a in 0..game.own_actions() {
         if let Some((o, s)) = first_after(game, points, point, a) {
@@ -30,8 +31,10 @@ pub fn first_split(game: &Game, points: &[Point], point: &Point) -> Option<(u32,
 fn first_after(game: &Game, points: &[Point], point: &Point, a: u32) -> Option<(u32, u32)>
     requires member { IsMember game.now points.now point.now }
     requires own { a < game.now.shape.own_actions }
-    ensures none { IsNone result → (o t : ℕ) → o < game.now.shape.observations → t < game.now.shape.states → SplitHolds (numbers game.now) (points_of (data_of points.now)) (point_of (point_data point.now)) a o t }
-    ensures first { IfSome result (λ place. FailsFirstAfter (numbers game.now) (points_of (data_of points.now)) (point_of (point_data point.now)) a place.0 place.1) }
+    ensures none { IsNone result → AllHoldAmong game.now points.now point.now
+        (split_places_after (numbers game.now) a) }
+    ensures first { IfSome result (λ place. FailsFirstAmong game.now points.now point.now
+        (split_places_after (numbers game.now) a) (split_place (a, place.0, place.1))) }
 {
     for o in 0..game.observations() {
         if let Some(s) = first_state(game, points, point, a, o) {
@@ -46,8 +49,10 @@ fn first_state(game: &Game, points: &[Point], point: &Point, a: u32, o: u32) -> 
     requires member { IsMember game.now points.now point.now }
     requires own { a < game.now.shape.own_actions }
     requires seen { o < game.now.shape.observations }
-    ensures none { IsNone result → (t : ℕ) → t < game.now.shape.states → SplitHolds (numbers game.now) (points_of (data_of points.now)) (point_of (point_data point.now)) a o t }
-    ensures first { IfSome result (λ t. FailsFirstAt (numbers game.now) (points_of (data_of points.now)) (point_of (point_data point.now)) a o t) }
+    ensures none { IsNone result → AllHoldAmong game.now points.now point.now
+        (split_places_seen (numbers game.now) a o) }
+    ensures first { IfSome result (λ t. FailsFirstAmong game.now points.now point.now
+        (split_places_seen (numbers game.now) a o) (split_place (a, o, t))) }
 {
     law_game(game);
     let mut masses = [0; MOST_STATES];

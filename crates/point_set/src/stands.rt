@@ -1,9 +1,8 @@
 //! The first place at which a point does not stand.
 
 ghost use Rattle.game_model.specs.Game.{numbers};
-ghost use Rattle.point_set.specs.Faults.{FailsFirst};
-ghost use Rattle.point_set.specs.Members.{IsMember, data_of, point_data};
-ghost use Rattle.point_set.specs.Points.{PointStands, point_of, points_of};
+ghost use Rattle.point_set.specs.Faults.{point_places};
+ghost use Rattle.point_set.specs.Members.{FailsFirstAmong, IsMember, StandsAmong};
 ghost use Rattle.std.specs.Prelude.{IfSome, IsNone, ◌↔◌};
 
 use crate::points::Point;
@@ -33,8 +32,8 @@ pub enum PointFault {
 /// The first place at which a point among others does not stand.
 pub fn first_fault(game: &Game, points: &[Point], point: &Point) -> Option<PointFault>
     requires { IsMember game.now points.now point.now }
-    ensures none { IsNone result ↔ PointStands (numbers game.now) (points_of (data_of points.now)) (point_of (point_data point.now)) }
-    ensures first { IfSome result (FailsFirst (numbers game.now) (points_of (data_of points.now)) (point_of (point_data point.now))) }
+    ensures none { IsNone result ↔ StandsAmong game.now points.now point.now }
+    ensures first { IfSome result (FailsFirstAmong game.now points.now point.now (point_places (numbers game.now))) }
 {
     if let Some((a, o, s)) = first_split(game, points, point) {
         return Some(PointFault::Split { a, o, s });

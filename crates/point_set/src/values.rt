@@ -3,9 +3,9 @@
 ghost use Rattle.belief.specs.Beliefs.{weight_at};
 ghost use Rattle.game_model.specs.Branches.{AreRising, branch_of};
 ghost use Rattle.game_model.specs.Game.{IsBelief, numbers};
-ghost use Rattle.point_set.specs.Faults.{SplitsHold, ValueFailsFirst, ValuesHold};
-ghost use Rattle.point_set.specs.Members.{IsAfter, IsMember, IsNamed, counted, counted_after, counted_size, data_of, point_data, row_rewards};
-ghost use Rattle.point_set.specs.Points.{ValueHolds, point_of, point_worth, points_of};
+ghost use Rattle.point_set.specs.Faults.{value_place, value_places};
+ghost use Rattle.point_set.specs.Members.{AllHoldAmong, FailsFirstAmong, IsAfter, IsMember, IsNamed, SplitsHoldAmong, ValueHoldsAmong, counted, counted_after, counted_size, data_of, row_rewards, worth_among};
+ghost use Rattle.point_set.specs.Points.{points_of};
 ghost use Rattle.scaled_num.specs.Sums.{below, total};
 ghost use Rattle.std.specs.Bool.{IsTrue};
 ghost use Rattle.std.specs.List.{AllByRecursion};
@@ -19,9 +19,10 @@ use game_model::{Branch, Game, MIX_TOTAL, UNITS, law_game};
 /// The first own action at which the value rule fails.
 pub fn first_value(game: &Game, points: &[Point], point: &Point) -> Option<u32>
     requires member { IsMember game.now points.now point.now }
-    requires splits { SplitsHold (numbers game.now) (points_of (data_of points.now)) (point_of (point_data point.now)) }
-    ensures none { IsNone result → ValuesHold (numbers game.now) (points_of (data_of points.now)) (point_of (point_data point.now)) }
-    ensures first { IfSome result (ValueFailsFirst (numbers game.now) (points_of (data_of points.now)) (point_of (point_data point.now))) }
+    requires splits { SplitsHoldAmong game.now points.now point.now }
+    ensures none { IsNone result → AllHoldAmong game.now points.now point.now (value_places (numbers game.now)) }
+    ensures first { IfSome result (λ a. FailsFirstAmong game.now points.now point.now
+        (value_places (numbers game.now)) (value_place a)) }
 {
     for a in 0..game.own_actions() {
         if !holds(game, points, point, a) {
@@ -34,9 +35,9 @@ pub fn first_value(game: &Game, points: &[Point], point: &Point) -> Option<u32>
 /// Whether the value rule holds at an own action.
 fn holds(game: &Game, points: &[Point], point: &Point, a: u32) -> bool
     requires member { IsMember game.now points.now point.now }
-    requires splits { SplitsHold (numbers game.now) (points_of (data_of points.now)) (point_of (point_data point.now)) }
+    requires splits { SplitsHoldAmong game.now points.now point.now }
     requires own { a < game.now.shape.own_actions }
-    ensures { IsTrue result ↔ ValueHolds (numbers game.now) (points_of (data_of points.now)) (point_of (point_data point.now)) a }
+    ensures { IsTrue result ↔ ValueHoldsAmong game.now points.now point.now a }
 {
     law_game(game);
     let (_, under) = game.discount();
@@ -49,9 +50,9 @@ fn holds(game: &Game, points: &[Point], point: &Point, a: u32) -> bool
 /// denominator: the left side of the value rule.
 pub fn worth_after(game: &Game, points: &[Point], point: &Point, a: u32) -> i128
     requires member { IsMember game.now points.now point.now }
-    requires splits { SplitsHold (numbers game.now) (points_of (data_of points.now)) (point_of (point_data point.now)) }
+    requires splits { SplitsHoldAmong game.now points.now point.now }
     requires own { a < game.now.shape.own_actions }
-    ensures exact { result ≡ point_worth (numbers game.now) (points_of (data_of points.now)) (point_of (point_data point.now)) a }
+    ensures exact { result ≡ worth_among game.now points.now point.now a }
     ensures small { unsigned_abs result ≤ 2 ^ 125 }
 {
     law_game(game);
@@ -68,7 +69,8 @@ fn rewards(game: &Game, belief: &Belief, mixes: &Mixes, a: u32) -> i128
     requires states { mixes.now.states ≡ game.now.shape.states }
     requires actions { mixes.now.actions ≡ game.now.shape.informed_actions }
     requires own { a < game.now.shape.own_actions }
-    ensures { result ≡ total (λ s. pos (weight_at belief.now s) *ℤ row_rewards game.now mixes.now a s) (below game.now.shape.states) }
+    ensures { result ≡ total (λ s. pos (weight_at belief.now s) *ℤ row_rewards game.now mixes.now a s)
+        (below game.now.shape.states) }
 {
     law_game(game);
     let mut sum = 0;
@@ -99,7 +101,8 @@ fn mixed_reward(game: &Game, mixes: &Mixes, s: u32, a: u32) -> i128
 fn counted(game: &Game, points: &[Point], splits: &[Branch], a: u32) -> i128
     requires named { AllByRecursion (IsNamed points.now) splits.now }
     requires rising { AreRising (map branch_of splits.now) }
-    requires small { sum_by (λ o. counted_size (points_of (data_of points.now)) (filter (IsAfter a o) splits.now)) (below game.now.shape.observations) ≤ 2 ^ 124 }
+    requires small { sum_by (λ o. counted_size (points_of (data_of points.now)) (filter (IsAfter a o) splits.now))
+        (below game.now.shape.observations) ≤ 2 ^ 124 }
     ensures { result ≡ counted_after (points_of (data_of points.now)) splits.now game.now.shape.observations a }
 {
     let mut sum = 0;

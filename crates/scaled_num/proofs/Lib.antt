@@ -9,3 +9,5 @@ pub mod Floors
 pub mod Same
 pub mod OneShare
 pub mod Weighted
+pub mod First
+pub mod Rounded

@@ -2,3 +2,4 @@ pub mod Sums
 pub mod Printed
 pub mod Share
 pub mod Laws
+pub mod First

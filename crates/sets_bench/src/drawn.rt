@@ -205,8 +205,9 @@ pub fn draw_certificate(
         outcome: Outcome::Full,
         nodes: draw_nodes(alloc, game, span, seed)?,
         points: draw_points(alloc, game, span, seed)?,
-        start_node: 0,
-        start_point: 0,
+        start_nodes: vec![in alloc; (0, 1)]?,
+        start_points: vec![in alloc; (0, 1)]?,
+        multiple: 1,
     })
 }
 

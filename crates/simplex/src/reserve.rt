@@ -1,7 +1,7 @@
 //! Vectors that keep their memory while their lengths change.
 
 ghost use Rattle.std.specs.Prelude.{◌≡◌, ℕ, ◌+◌, ◌-◌, ◌<◌, ◌≤◌, length, vec_capacity, IfOk};
-ghost use Rattle.simplex.specs.Tableau.{RowsHold, list_at};
+ghost use Rattle.simplex.specs.Tableau.{AreWide, RowsHold};
 
 use std::alloc::{AllocError, Global};
 
@@ -27,7 +27,8 @@ fn move_row(from: &mut Vec<Vec<i128>>, to: &mut Vec<Vec<i128>>)
     ensures from_room { vec_capacity from.new ≡ vec_capacity from.old }
     ensures to_room { vec_capacity to.new ≡ vec_capacity to.old }
     ensures from_hold { (width : ℕ) → RowsHold width from.old.items → RowsHold width from.new.items }
-    ensures to_hold { (width : ℕ) → RowsHold width from.old.items → RowsHold width to.old.items → RowsHold width to.new.items }
+    ensures to_hold { (width : ℕ) → RowsHold width from.old.items → RowsHold width to.old.items →
+        RowsHold width to.new.items }
 {
     if let Some(row) = from.pop() {
         to.push_reserved(row);
@@ -42,7 +43,8 @@ fn move_rows(from: &mut Vec<Vec<i128>>, to: &mut Vec<Vec<i128>>, left: usize)
     ensures both { length from.new.items + length to.new.items ≡ length from.old.items + length to.old.items }
     ensures from_room { vec_capacity from.new ≡ vec_capacity from.old }
     ensures to_room { vec_capacity to.new ≡ vec_capacity to.old }
-    ensures hold { (width : ℕ) → RowsHold width from.old.items → RowsHold width to.old.items → RowsHold width from.new.items × RowsHold width to.new.items }
+    ensures hold { (width : ℕ) → RowsHold width from.old.items → RowsHold width to.old.items →
+        RowsHold width from.new.items × RowsHold width to.new.items }
 {
     while from.len() > left {
         move_row(from, to);
@@ -58,7 +60,8 @@ pub fn set_height(rows: &mut Vec<Vec<i128>>, spare: &mut Vec<Vec<i128>>, height:
     ensures both { length rows.new.items + length spare.new.items ≡ length rows.old.items + length spare.old.items }
     ensures room { vec_capacity rows.new ≡ vec_capacity rows.old }
     ensures spare_room { vec_capacity spare.new ≡ vec_capacity spare.old }
-    ensures hold { (width : ℕ) → RowsHold width rows.old.items → RowsHold width spare.old.items → RowsHold width rows.new.items × RowsHold width spare.new.items }
+    ensures hold { (width : ℕ) → RowsHold width rows.old.items → RowsHold width spare.old.items →
+        RowsHold width rows.new.items × RowsHold width spare.new.items }
 {
     let now = rows.len();
     if now < height {
@@ -92,7 +95,7 @@ fn set_width(row: &mut Vec<i128>, width: usize)
 /// Gives all rows this width within their memory.
 pub fn set_widths(rows: &mut [Vec<i128>], width: usize)
     requires { RowsHold width rows.old }
-    ensures wide { (k : ℕ) → k < length rows.new → length (list_at rows.new k) ≡ width }
+    ensures wide { AreWide rows.new width }
     ensures hold { (most : ℕ) → RowsHold most rows.old → RowsHold most rows.new }
 {
     for place in 0..rows.len() {

@@ -10,7 +10,7 @@ use Rattle.scaled_num.proofs.Sums.{below-each}
 use Rattle.game_model.specs.Game.{GameData, IsBelief, IsGame, IsMass}
 use Rattle.alpha_set.specs.Nodes.{NodeData}
 use Rattle.belief.proofs.Landings.{each-filter}
-use Rattle.stage_game.specs.Asked.{AreLowerEnds, AreRisingNumbers}
+use Rattle.stage_game.specs.Asked.{AreLowerEnds, AreNamed, AreRisingNumbers}
 use Rattle.stage_game.specs.Chosen.{is_among, risen}
 use Rattle.stage_game.proofs.BeliefShares.{low-each}
 use Rattle.stage_game.proofs.FewPoints.{AreApart, apart-filter, few-apart}
@@ -38,7 +38,10 @@ apart-range a (suc n) = (further a (a + 1) n (omega arith), apart-range (a + 1) 
     further x a zero l = tt
     further x a (suc n) l = (l, further x (a + 1) n (omega arith))
 
-filter-passes : (q : ℕ → Bool) (xs : List ℕ) → AllByRecursion (λ x. q x ≡ true) (filter q xs)
+pub risen-apart : (count : ℕ) (numbers : List ℕ) → AreApart (risen count numbers)
+risen-apart count numbers = apart-filter (λ k. is_among k numbers) (below count) (apart-range 0 count)
+
+pub filter-passes : (q : ℕ → Bool) (xs : List ℕ) → AllByRecursion (λ x. q x ≡ true) (filter q xs)
 filter-passes q [] = tt
 filter-passes q (x ∷ xs) = one (filter-passes q xs) (q x) refl
   where
@@ -61,19 +64,24 @@ some-passes q k e a (suc n) l m = elim (eqb_tells k a) [
     rest true l = omega arith
     rest false l = l
 
+-- what is chosen rises and names members
+pub named-risen : (count : ℕ) (numbers : List ℕ) → AreNamed count (risen count numbers)
+named-risen count numbers = record {
+  rising = rising-apart (risen count numbers) (risen-apart count numbers);
+  inside = each-filter (λ k. k < count) (λ k. is_among k numbers) (below count) (below-each (λ k. k < count) count (λ k l. l));
+}
+
 -- what is chosen for a lower program serves one
 pub lower-serves : (nodes : List NodeData) (numbers : List ℕ) (best : ℕ) → best < length nodes → is_among best numbers ≡ true → length numbers ≤ 16 → AreLowerEnds nodes (risen (length nodes) numbers)
 lower-serves nodes numbers best l e few =
     let q : ℕ → Bool = λ k. is_among k numbers in
-    let apart : AreApart (risen (length nodes) numbers) = apart-filter q (below (length nodes)) (apart-range 0 (length nodes)) in
+    let apart : AreApart (risen (length nodes) numbers) = risen-apart (length nodes) numbers in
     record {
-      named = record {
-        rising = rising-apart (risen (length nodes) numbers) apart;
-        inside = each-filter (λ k. k < length nodes) q (below (length nodes)) (below-each (λ k. k < length nodes) (length nodes) (λ k l. l));
-      };
+      named = named-risen (length nodes) numbers;
       some = some-passes q best e 0 (length nodes) (omega arith) (omega arith);
       few = omega (arith, few-apart (risen (length nodes) numbers) numbers apart (filter-passes q (below (length nodes))));
     }
 
+-- the first of a list is among it
 pub first-among : (k : ℕ) (xs : List ℕ) → is_among k (k ∷ xs) ≡ true
 first-among k xs = elim (eqb_tells k k) [ inl h ↦ rw h.0 refl | inr h ↦ absurd (h.1 refl) ]

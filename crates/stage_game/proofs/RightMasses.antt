@@ -1,20 +1,25 @@
 -- The masses that follow a belief under mixes are masses of the game.
-use Rattle.std.proofs.Common.{◌≡◌, ℕ, ◌*◌, ◌^◌, ◌<◌, ◌≤◌, List, [], ap, arith, sym, subst, ◌∙◌}
-use Rattle.std.specs.Prelude.{ℤ, pos, ◌≤ℤ◌, sum_by}
+use Rattle.std.specs.List.{AllByRecursion}
+use Rattle.std.proofs.Common.{◌≡◌, ℕ, ◌*◌, ◌^◌, ◌<◌, ◌≤◌, List, [], ◌∷◌, flat_map, ap, arith, sym, subst, ◌∙◌}
+use Rattle.std.specs.Prelude.{ℤ, pos, ◌*ℤ◌, ◌≤ℤ◌, sum_by}
 use Rattle.std.proofs.Math.Nat.{mul-le-mul_left}
 use Rattle.std.proofs.lemmas.Int.{ints}
 use Rattle.std.proofs.lemmas.List.FromFn.{get_or-range_with_len, length-map-range_with_len, length-range_with_len}
 use Rattle.std.proofs.lemmas.List.Sums.{get_or-le-sum_by}
 use Rattle.scaled_num.specs.Sums.{below, sum_of}
-use Rattle.scaled_num.proofs.Sums.{below-each, each-map, total-map, total-pos}
+use Rattle.scaled_num.proofs.Sums.{below-each, each-append, each-map, total-map, total-pos}
 use Rattle.game_model.specs.Game.{GameData, IsBelief, IsGame, IsMass, numbers}
 use Rattle.game_model.proofs.Games.{keeps-span}
+use Rattle.belief.specs.After.{mass_after}
 use Rattle.belief.specs.Beliefs.{mix_weight, weight_at}
 use Rattle.belief.specs.Mixes.{MixesData, mass_of}
-use Rattle.point_set.specs.Points.{Point}
+use Rattle.belief.proofs.Landings.{each-filter}
+use Rattle.point_set.specs.Points.{Point, PointData}
+use Rattle.point_set.specs.Sawtooth.{AreMeasured}
 use Rattle.point_set.proofs.Masses.{belief-total, masses-sum, mix-total}
 use Rattle.stage_game.specs.Fits.{MixesFit}
-use Rattle.stage_game.specs.Masses.{mass_after}
+use Rattle.stage_game.specs.Asked.{PointsServe}
+use Rattle.stage_game.specs.Masses.{is_some_mass, masses, over_pairs}
 use Rattle.stage_game.proofs.Sizes.{limits, whole}
 
 pub mass-right : (g : GameData) → IsGame g → (belief : List ℤ) → IsBelief g.shape.states belief → (mixes : MixesData) → MixesFit g mixes → (a o : ℕ) → a < g.shape.own_actions → o < g.shape.observations →
@@ -40,3 +45,26 @@ mass-right g h belief right mixes fits a o la lo =
       each = each-map (λ x. pos 0 ≤ℤ x) (λ t. pos (m o t)) (below states) (below-each (λ t. pos 0 ≤ℤ pos (m o t)) states (λ t l. omega (arith, ints)));
       most = rw sum_is (rw ((limits g h).row_total) (omega (arith, ints)));
     }
+
+-- the masses that are not zero are measured by points that serve
+pub masses-measured : (g : GameData) → IsGame g → (belief : List ℤ) → IsBelief g.shape.states belief → (mixes : MixesData) → MixesFit g mixes → (points : List PointData) → PointsServe g points →
+    AllByRecursion (AreMeasured points) (masses g belief mixes)
+masses-measured g h belief right mixes fits points serve =
+    each-filter (AreMeasured points) is_some_mass (over_pairs g (λ a o. mass_after g belief mixes a o ∷ []))
+    (blocks (λ a. flat_map (λ o. mass_after g belief mixes a o ∷ []) (below g.shape.observations)) g.shape.own_actions
+    (λ a la. blocks (λ o. mass_after g belief mixes a o ∷ []) g.shape.observations
+    (λ o lo. (record { game = g; accepted = h; fit = serve.fit; corners = serve.corners; right = mass-right g h belief right mixes fits a o la lo }, tt))))
+  where
+    each : (f : ℕ → List (List ℤ)) (xs : List ℕ) → AllByRecursion (λ i. AllByRecursion (AreMeasured points) (f i)) xs → AllByRecursion (AreMeasured points) (flat_map f xs)
+    each f [] h = tt
+    each f (x ∷ xs) h = each-append (AreMeasured points) (f x) (flat_map f xs) h.0 (each f xs h.1)
+
+    blocks : (f : ℕ → List (List ℤ)) (n : ℕ) → ((i : ℕ) → i < n → AllByRecursion (AreMeasured points) (f i)) → AllByRecursion (AreMeasured points) (flat_map f (below n))
+    blocks f n h = each f (below n) (below-each (λ i. AllByRecursion (AreMeasured points) (f i)) n h)
+
+-- a mass has a sum that can be formed
+pub mass-light : (g : GameData) → IsGame g → (mass : List ℤ) → IsMass g mass → sum_of mass ≤ℤ pos (2 ^ 126)
+mass-light g h mass right = light (sum_of mass) g.shape.row_total right.most h.shape.row_total.1
+  where
+    light : (sum whole : ℤ) → sum ≤ℤ (pos (2 ^ 36) *ℤ whole) → whole ≤ℤ pos (2 ^ 30) → sum ≤ℤ pos (2 ^ 126)
+    light sum whole l m = omega (arith, ints)

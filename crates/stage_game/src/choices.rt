@@ -1,7 +1,8 @@
 //! Numbers chosen out of lists of preference, each once, and put in order.
 
-ghost use Rattle.stage_game.specs.Chosen.{different, downwards, risen};
-ghost use Rattle.std.specs.Prelude.{IfOk, OnOk, List, [], take, ℕ, ◌++◌, ◌∷◌, ◌≡◌};
+ghost use Rattle.stage_game.specs.Chosen.{downwards, risen};
+ghost use Rattle.stage_game.specs.Preferred.{GoesOn};
+ghost use Rattle.std.specs.Prelude.{IfOk, OnOk, [], take, ◌++◌, ◌∷◌, ◌≡◌};
 
 use std::alloc::{AllocError, Global};
 
@@ -20,7 +21,7 @@ pub fn risen(alloc: Global, count: u32, numbers: &[u32]) -> Result<Vec<u32>, All
 
 /// Adds the number that is preferred next, unless so many are chosen or it is there.
 pub fn prefer(kept: &mut Vec<u32>, most: usize, k: u32) -> Result<(), AllocError>
-    ensures { OnOk result ((seen : List ℕ) → kept.old.items ≡ take most (different seen) → kept.new.items ≡ take most (different (seen ++ k ∷ []))) }
+    ensures { OnOk result (GoesOn most (k ∷ []) kept.old.items kept.new.items) }
 {
     if kept.len() >= most {
         return Ok(());
@@ -34,7 +35,7 @@ pub fn prefer(kept: &mut Vec<u32>, most: usize, k: u32) -> Result<(), AllocError
 
 /// Adds the numbers below a count, from the last one downwards, as far as so many are chosen.
 pub fn prefer_downwards(kept: &mut Vec<u32>, most: usize, count: u32) -> Result<(), AllocError>
-    ensures { OnOk result ((seen : List ℕ) → kept.old.items ≡ take most (different seen) → kept.new.items ≡ take most (different (seen ++ downwards count))) }
+    ensures { OnOk result (GoesOn most (downwards count) kept.old.items kept.new.items) }
 {
     for i in 0..count {
         prefer(kept, most, count - 1 - i)?;

@@ -13,8 +13,6 @@ use Rattle.std.proofs.lemmas.Bool.Decides.{nat_tests}
 use Rattle.text_words.specs.Lines.{Line}
 use Rattle.text_words.specs.Numbers.{numbers_of}
 use Rattle.text_words.specs.Forms.{number_at, numbers_said, numbers_after}
-use Rattle.text_words.specs.declared.forms.NumbersFault.{NumbersFault}
-use Rattle.text_words.specs.declared.forms.NumbersFault.TheVariants.{Shape, Number, OutOfMemory}
 use Rattle.text_words.proofs.Printed.{numbers_of-printed, numbers_of-prints, signed_decimal-above}
 use Rattle.text_words.proofs.Whole.{IsWord}
 use Rattle.text_words.proofs.Limits.{IsInside, cond_then, or_some, and_true}
@@ -115,21 +113,16 @@ three_are ns x y z e p q r = cc (three_numbers ns e)
 pub four_are : (ns : List ℤ) (x y z w : ℤ) → length ns ≡ 4 → number_at ns 0 ≡ x → number_at ns 1 ≡ y → number_at ns 2 ≡ z → number_at ns 3 ≡ w → ns ≡ x ∷ y ∷ z ∷ w ∷ []
 four_are ns x y z w e p q r t = cc (four_numbers ns e)
 
--- ---- what is told, with faults of another kind
+-- ---- what may be told of a line
 
--- the same answer, with its fault told by another kind
-abbrev pub by_kind : {K A : Type 0} → K → K → Result A NumbersFault → Result A K
-by_kind shape number (Ok x) = Ok x
-by_kind shape number (Err Shape) = Err shape
-by_kind shape number (Err Number) = Err number
-by_kind shape number (Err OutOfMemory) = Err shape
-
-pub numbers_after-by_kind : {K : Type 0} (shape number : K) (name : List ℕ) (count : ℕ) (line : Line) → numbers_after shape number name count line ≡ by_kind shape number (numbers_after Shape Number name count line)
+-- what holds of both refusals and of all numbers holds of what a line says
+pub numbers_after-each : {K : Type 0} (P : Result (List ℤ) K → Type 0) (shape number : K) (name : List ℕ) (count : ℕ) (line : Line)
+    → P (Err shape) → P (Err number) → ((ns : List ℤ) → P (Ok ns)) → P (numbers_after shape number name count line)
 unfolding numbers_after numbers_said
-numbers_after-by_kind shape number name count [] = refl
-numbers_after-by_kind shape number name count (word ∷ words) = kinds_of (bytes_eq word name && (length words == count)) (numbers_of words)
+numbers_after-each P shape number name count [] s n o = s
+numbers_after-each {K} P shape number name count (word ∷ words) s n o = each (bytes_eq word name && (length words == count)) (numbers_of words)
   where
-    kinds_of : (b : Bool) (o : Option (List ℤ)) → cond b (ok_or o number) (Err shape) ≡ by_kind shape number (cond b (ok_or o Number) (Err Shape))
-    kinds_of true (Some ns) = refl
-    kinds_of true None = refl
-    kinds_of false o = refl
+    each : (b : Bool) (ns : Option (List ℤ)) → P (cond b (ok_or ns number) (Err shape))
+    each true (Some ns) = o ns
+    each true None = n
+    each false ns = s

@@ -20,6 +20,11 @@ abbrev pub begins : Word → Line → Bool
 begins name [] = false
 begins name (word ∷ words) = bytes_eq word name
 
+-- the words of the first line and the lines after it, else the fault of a text without a whole line
+abbrev pub first_of : {K : Type 0} → K → List Line → Result (Line × List Line) K
+first_of missing [] = Err missing
+first_of missing (line ∷ lines) = Ok (line, lines)
+
 -- the numbers of words that are all number words, else the fault of a word that is none
 unfoldable pub numbers_said : {K : Type 0} → K → Line → Result (List ℤ) K
 numbers_said number words = ok_or (numbers_of words) number

@@ -1,73 +1,72 @@
 //! Lines of a word and numbers, and the limits of numbers.
-ghost use Rattle.std.specs.Prelude.{◌≡◌, ◌≤◌, ◌<◌, length, map, IfOk, OnOk, All, pos, ◌≤ℤ◌};
-ghost use Rattle.text_words.specs.declared.forms.NumbersFault.TheVariants.{Shape, Number, OutOfMemory};
-ghost use Rattle.text_words.specs.Forms.{begins, numbers_said, numbers_after, is_within, limited, below_limit, each_within};
-ghost use Rattle.text_words.specs.Told.{Told};
+ghost use Rattle.std.specs.Prelude.{◌≡◌, ◌==◌, ◌≤◌, ◌<◌, length, IfOk, OnOk, All, pos, ◌≤ℤ◌};
+ghost use Rattle.std.specs.List.{after_first};
+ghost use Rattle.text_words.specs.Fault.{Gives};
+ghost use Rattle.text_words.specs.Forms.{begins, first_of, numbers_said, numbers_after, is_within, limited, below_limit, each_within};
+ghost use Rattle.text_words.specs.Lines.{line_in, lines_of};
 
+use crate::fault::LineFault;
+use crate::lines::{split_line, words};
 use crate::numbers::number;
-use std::alloc::{AllocError, AllocFailed, Global};
+use std::alloc::Global;
 
-/// Why a line gives no numbers.
-#[derive(Clone, Copy, Debug, PartialEq, Eq)]
-pub enum NumbersFault {
-    /// It begins with another word, or has another number of words.
-    Shape,
-    /// A word is no number.
-    Number,
-    /// There was not enough memory.
-    OutOfMemory,
+/// The words of the first line, and what follows it. Without a whole line it is refused for the kind that is given.
+pub fn first_words<K: Copy>(
+    alloc: Global,
+    missing: K,
+    text: &[u8],
+) -> Result<(Vec<&[u8]>, &[u8]), LineFault<K>>
+    ensures gives { Gives (λ found. (line_in found.0.items, lines_of found.1.now)) result
+        (first_of missing (lines_of text.now)) }
+    ensures after { IfOk result (λ found. found.1.now ≡ after_first (λ b. b == 10) text.now) }
+    ensures shorter { IfOk result (λ found. length found.1.now < length text.now) }
+{
+    let Some((line, rest)) = split_line(text) else {
+        return Err(LineFault::Refused(missing));
+    };
+    Ok((words(alloc, line)?, rest))
 }
 
-impl From<AllocError> for NumbersFault {
-    ghost from_gives = { λ _ fault. fault ≡ OutOfMemory };
-
-    fn from(_: AllocError) -> Self {
-        NumbersFault::OutOfMemory
-    }
-}
-
-impl<T: Drop> From<AllocFailed<T>> for NumbersFault {
-    ghost from_gives = { λ _ fault. fault ≡ OutOfMemory };
-
-    fn from(_: AllocFailed<T>) -> Self {
-        NumbersFault::OutOfMemory
-    }
-}
-
-/// The numbers of words that are all number words.
+/// The numbers of words that are all number words. A word that is none is refused for the kind that is given.
 #[tactic(auto, unfolding(crate::specs::Forms::numbers_said))]
-fn numbers(alloc: Global, words: &[&[u8]]) -> Result<Vec<i128>, NumbersFault>
-    ensures told { Told (λ numbers. numbers.items) (numbers_said Number (map (λ word. word.now) words.now)) result }
+fn numbers<K: Copy>(alloc: Global, other: K, words: &[&[u8]]) -> Result<Vec<i128>, LineFault<K>>
+    ensures gives { Gives (λ numbers. numbers.items) result (numbers_said other (line_in words.now)) }
     ensures count { IfOk result (λ numbers. length numbers.items ≡ length words.now) }
 {
     let mut numbers = Vec::new(alloc);
     for word in words {
-        let number = number(word).ok_or(NumbersFault::Number)?;
+        let Some(number) = number(word) else {
+            return Err(LineFault::Refused(other));
+        };
         numbers.push(number)?;
     }
     Ok(numbers)
 }
 
-/// The numbers of a line that is this word and so many numbers.
+/// The numbers of a line that is this word and so many numbers. Another line is refused for the kind `shape`, and a
+/// word that is no number for the kind `other`.
 #[tactic(auto, unfolding(crate::specs::Forms::numbers_after))]
-pub fn numbers_after(
+pub fn numbers_after<K: Copy>(
     alloc: Global,
+    shape: K,
+    other: K,
     words: &[&[u8]],
     name: &[u8],
     count: usize,
-) -> Result<Vec<i128>, NumbersFault>
-    ensures told { Told (λ numbers. numbers.items) (numbers_after Shape Number name.now count (map (λ word. word.now) words.now)) result }
+) -> Result<Vec<i128>, LineFault<K>>
+    ensures gives { Gives (λ numbers. numbers.items) result
+        (numbers_after shape other name.now count (line_in words.now)) }
     ensures count { IfOk result (λ numbers. length numbers.items ≡ count) }
 {
     match words {
-        [first, rest @ ..] if *first == name && rest.len() == count => numbers(alloc, rest),
-        _ => Err(NumbersFault::Shape),
+        [first, rest @ ..] if *first == name && rest.len() == count => numbers(alloc, other, rest),
+        _ => Err(LineFault::Refused(shape)),
     }
 }
 
 /// Whether the line begins with this word.
 pub fn begins(name: &[u8], words: &[&[u8]]) -> bool
-    ensures { result ≡ begins name.now (map (λ word. word.now) words.now) }
+    ensures { result ≡ begins name.now (line_in words.now) }
 {
     match words {
         [first, ..] => *first == name,

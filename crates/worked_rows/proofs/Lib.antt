@@ -1,1 +1,2 @@
 pub mod ThreePoints
+pub mod SeedsServe

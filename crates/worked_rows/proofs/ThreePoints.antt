@@ -1,13 +1,14 @@
 -- Three points of two states, and a mass over them.
-use Rattle.std.proofs.Common.{◌≡◌, ℕ, zero, suc, ◌+◌, ◌^◌, ◌<◌, ◌≤◌, List, [], ◌∷◌, ◌++◌, length, refl, ap, arith, subst, sym, ◌∙◌, length-append}
-use Rattle.std.specs.Prelude.{ℤ, pos, ◌+ℤ◌, ◌*ℤ◌, ◌≤ℤ◌}
+use Rattle.std.proofs.Common.{◌≡◌, ℕ, zero, suc, ◌+◌, ◌^◌, ◌<◌, ◌≤◌, List, [], ◌∷◌, ◌++◌, length, refl, ap, arith, subst, sym, ◌∙◌, length-append, Bool, true, false, cond}
+use Rattle.std.specs.Prelude.{ℤ, pos, not, ◌+ℤ◌, ◌*ℤ◌, ◌≤ℤ◌}
 use Rattle.std.proofs.lemmas.Int.{ints}
 use Rattle.game_model.specs.Game.{GameData, IsGame}
 use Rattle.belief.specs.Beliefs.{corner_of}
-use Rattle.point_set.specs.Corners.{HasCorner, IsAtCorner}
+use Rattle.point_set.specs.Corners.{HasCorner, IsAtCorner, IsCurrentCorner}
 use Rattle.point_set.specs.Members.{most_points}
 use Rattle.point_set.specs.Points.{PointData, PointFits}
-use Rattle.point_set.specs.Sawtooth.{AreMeasured}
+use Rattle.point_set.specs.Sawtooth.{AreCorners, AreMeasured}
+use Rattle.point_set.specs.Split.{IsWanted, is_corner}
 use Rattle.point_set.proofs.CornerNumbers.{new-at}
 
 -- a belief of two states that is sure of one
@@ -52,3 +53,29 @@ three-measured g p q r m n few accepted two fp fq fr cp cq = record {
     most = heavy m n g.shape.row_total few accepted.shape.row_total.0;
   };
 }
+
+-- the corners of two states
+abbrev corner_pair : ℕ → ℕ → ℕ → ℕ
+corner_pair i j zero = i
+corner_pair i j (suc s) = j
+
+both-current : (points : List PointData) (i j : ℕ) → IsCurrentCorner points 0 i → IsCurrentCorner points 1 j → AreCorners points 2 (corner_pair i j)
+both-current points i j first second zero l = first
+both-current points i j first second (suc zero) l = second
+both-current points i j first second (suc (suc s)) l = absurd (omega arith)
+
+-- the third point is wanted, where these are the current corners
+pub third-wanted : (points : List PointData) (i j : ℕ) → length points ≡ 3 → IsCurrentCorner points 0 i → IsCurrentCorner points 1 j → IsWanted points 2 ((2, pos 1) ∷ [])
+third-wanted points i j three first second = record {
+  some = omega arith;
+  rising = tt;
+  inside = (omega (arith, three), tt);
+  weights = ((omega (arith, ints), omega (arith, ints)), tt);
+  corners = corner_pair i j;
+  current = both-current points i j first second;
+  few = one (not (is_corner (corner_pair i j) 2 2));
+}
+  where
+    one : (b : Bool) → length {A = ℕ × ℤ} (cond b ((2, pos 1) ∷ []) []) ≤ 8
+    one true = omega arith
+    one false = omega arith

@@ -64,12 +64,16 @@ fn points_of(alloc: Global, game: &Game, mixes: Mixes, k: u32) -> Result<PointSe
 }
 
 /// A certificate of three at each stage.
-fn certificate_of(nodes: NodeSet, points: PointSet) -> Certificate {
+fn certificate_of(
+    alloc: Global,
+    nodes: NodeSet,
+    points: PointSet,
+) -> Result<Certificate, AllocError> {
     let six = Fraction {
         num: 393_216,
         den: 65_536,
     };
-    Certificate {
+    Ok(Certificate {
         lower: six,
         upper: six,
         tail: six,
@@ -77,9 +81,10 @@ fn certificate_of(nodes: NodeSet, points: PointSet) -> Certificate {
         outcome: Outcome::Closed,
         nodes,
         points,
-        start_node: 0,
-        start_point: 0,
-    }
+        start_nodes: vec![in alloc; (0, 1)]?,
+        start_points: vec![in alloc; (0, 1)]?,
+        multiple: 1,
+    })
 }
 
 /// Whether the certificate with this entry fits, whose point goes on with point `k`.
@@ -92,7 +97,7 @@ fn fits_with(
 ) -> Result<bool, AllocError> {
     let nodes = nodes_of(alloc, game, entry)?;
     let points = points_of(alloc, game, mixes, k)?;
-    Ok(certificate_of(nodes, points).fits(game))
+    Ok(certificate_of(alloc, nodes, points)?.fits(game))
 }
 
 #[test]

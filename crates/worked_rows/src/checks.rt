@@ -77,9 +77,15 @@ fn units(num: i128) -> Fraction {
     Fraction { num, den: 65_536 }
 }
 
-/// A closed certificate with these bounds.
-fn closed(nodes: NodeSet, points: PointSet, lower: i128, upper: i128, tail: i128) -> Certificate {
-    Certificate {
+/// A closed certificate with this lower bound, upper bound and tail.
+fn closed(
+    alloc: Global,
+    nodes: NodeSet,
+    points: PointSet,
+    bounds: [i128; 3],
+) -> Result<Certificate, AllocError> {
+    let [lower, upper, tail] = bounds;
+    Ok(Certificate {
         lower: units(lower),
         upper: units(upper),
         tail: units(tail),
@@ -87,9 +93,10 @@ fn closed(nodes: NodeSet, points: PointSet, lower: i128, upper: i128, tail: i128
         outcome: Outcome::Closed,
         nodes,
         points,
-        start_node: 0,
-        start_point: 0,
-    }
+        start_nodes: vec![in alloc; (0, 1)]?,
+        start_points: vec![in alloc; (0, 1)]?,
+        multiple: 1,
+    })
 }
 
 /// The verdict on three halved with a point of this value that goes on by this weight, None where the certificate
@@ -103,7 +110,7 @@ fn verdict_of(
 ) -> Result<Option<Verdict>, AllocError> {
     let nodes = nodes_of(alloc, game, 393_216)?;
     let points = points_of(alloc, game, mixes, value, weight)?;
-    let certificate = closed(nodes, points, 393_216, 393_216, 393_216);
+    let certificate = closed(alloc, nodes, points, [393_216; 3])?;
     if !certificate.fits(game) {
         return Ok(None);
     }
@@ -153,7 +160,10 @@ fn a_node_above_three_at_each_stage_fails_where_four_may_be_paid(rt: HostRuntime
     let Ok(points) = points_of(rt.alloc(), &game, mixes, 393_216, 65_536) else {
         panic!(rt; "out of memory");
     };
-    let certificate = closed(nodes, points, 393_217, 393_216, 524_288);
+    let bounds = [393_217, 393_216, 524_288];
+    let Ok(certificate) = closed(rt.alloc(), nodes, points, bounds) else {
+        panic!(rt; "out of memory");
+    };
     assert!(rt; certificate.fits(&game));
     assert!(rt; check(&game, &certificate) == Verdict::No(Reason::Node { i: 0, s: 0, c: 0 }));
 }

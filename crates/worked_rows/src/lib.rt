@@ -4,9 +4,13 @@
 #[cfg(test)]
 mod beliefs;
 #[cfg(test)]
+mod blocks;
+#[cfg(test)]
 mod certificates;
 #[cfg(test)]
 mod checks;
+#[cfg(test)]
+mod ends;
 #[cfg(test)]
 mod games;
 #[cfg(test)]
@@ -16,6 +20,12 @@ mod numbers;
 #[cfg(test)]
 mod points;
 #[cfg(test)]
+mod programs;
+#[cfg(test)]
 mod seeds;
+#[cfg(test)]
+mod solvers;
+#[cfg(test)]
+mod stages;
 #[cfg(test)]
 mod words;

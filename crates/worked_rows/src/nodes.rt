@@ -29,7 +29,7 @@ fn three_or_four(alloc: Global) -> Result<Game, GameFault> {
 }
 
 /// The node of this vector that goes on with node 0.
-fn node_with(alloc: Global, game: &Game, vector: Vec<i128>) -> Result<Node, AllocError>
+pub fn node_with(alloc: Global, game: &Game, vector: Vec<i128>) -> Result<Node, AllocError>
     requires own { game.now.shape.own_actions ≡ 1 }
     requires seen { game.now.shape.observations ≡ 1 }
     requires long { length vector.items ≡ game.now.shape.states }

@@ -150,7 +150,12 @@ fn two_states(alloc: Global) -> Result<Game, GameFault> {
 }
 
 /// A point of that game without shares.
-fn plain_point(alloc: Global, game: &Game, belief: Belief, value: i128) -> Result<Point, AllocError>
+pub fn plain_point(
+    alloc: Global,
+    game: &Game,
+    belief: Belief,
+    value: i128,
+) -> Result<Point, AllocError>
     requires states { game.now.shape.states ≡ 2 }
     requires informed { game.now.shape.informed_actions ≡ 1 }
     requires span { span game.now ≡ 65536 }
@@ -259,4 +264,29 @@ fn a_tooth_split_takes_the_best_point_and_a_corner(rt: HostRuntime) {
     assert!(rt; split.item(0) == (0, 32_768));
     assert!(rt; split.item(1) == (2, 32_768));
     assert_eq!(rt; set.sawtooth(&[65_536, 65_536]), 32_768 * 163_840);
+}
+
+#[test]
+fn what_a_wanted_point_leaves_goes_to_the_corners(rt: HostRuntime) {
+    let Ok(game) = two_states(rt.alloc()) else {
+        panic!(rt; "the game is refused");
+    };
+    assert_eq!(rt; game.states(), 2);
+    assert_eq!(rt; game.informed_actions(), 1);
+    assert_eq!(rt; game.span(), 65_536);
+    let Some(even) = Belief::of(&[1, 1]) else {
+        panic!(rt; "no belief");
+    };
+    let Ok(set) = three_points(rt.alloc(), &game, even, 65_536) else {
+        panic!(rt; "out of memory");
+    };
+    assert_eq!(rt; set.len(), 3);
+    assert_eq!(rt; set.corner(0), 0);
+    assert_eq!(rt; set.corner(1), 1);
+    let mut split = Split::new();
+    assert_eq!(rt; split.len(), 0);
+    set.split_into(&[(2, 1)], &[2, 3], &mut split);
+    assert_eq!(rt; split.len(), 2);
+    assert!(rt; split.item(0) == (1, 1));
+    assert!(rt; split.item(1) == (2, 2));
 }

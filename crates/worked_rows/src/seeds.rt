@@ -1,4 +1,6 @@
-use alpha_set::NodeSet;
+//! Worked seeds of a search.
+
+use alpha_set::{NodeSet, Step};
 use backup::seed;
 use game_model::{Game, GameBuilder, GameFault, Shape};
 use point_set::{PointSet, Share};
@@ -42,9 +44,13 @@ fn guess(alloc: Global) -> Result<Game, GameFault> {
     builder.finish()
 }
 
-/// Whether a set has so many nodes, and the node of a number has this vector.
-fn has_node(nodes: &NodeSet, count: u32, number: u32, vector: &[i128]) -> bool {
-    nodes.len() == count && number < nodes.len() && nodes.node(number).vector.as_slice() == vector
+/// Whether the node of a number has this vector, this mix and these steps.
+fn has_node(nodes: &NodeSet, number: u32, vector: &[i128], mix: &[i128], next: &[Step]) -> bool {
+    if number >= nodes.len() {
+        return false;
+    }
+    let node = nodes.node(number);
+    node.vector.as_slice() == vector && node.mix.as_slice() == mix && node.next.as_slice() == next
 }
 
 /// Whether the point of a number has this belief, this value and these shares.
@@ -62,19 +68,24 @@ fn has_point(
     point.belief.parts() == belief && point.value == value && point.splits.as_slice() == shares
 }
 
-/// Whether the mix of the only state at a point plays two informed actions by these weights.
-fn has_mix(points: &PointSet, number: u32, first: i128, second: i128) -> bool {
+/// Whether the mixes at a point are those of so many states and informed actions, and play this action in each state.
+fn plays(points: &PointSet, number: u32, states: u32, actions: u32, action: u32) -> bool {
     if number >= points.len() {
         return false;
     }
     let mixes = &points.point(number).mixes;
-    mixes.states() == 1
-        && mixes.actions() == 2
-        && mixes.get(0, 0) == first
-        && mixes.get(0, 1) == second
+    if mixes.states() != states || mixes.actions() != actions || action >= actions {
+        return false;
+    }
+    for s in 0..states {
+        if mixes.get(s, action) != 65_536 {
+            return false;
+        }
+    }
+    true
 }
 
-/// A share after an own action.
+/// The whole weight of a mix on a member, after an own action and the only observation.
 fn share(a: u32, k: u32) -> Share {
     Share {
         a,
@@ -92,11 +103,12 @@ fn seeds_of_matching_pennies_have_no_root(rt: HostRuntime) {
     let Ok((nodes, points)) = seed(rt.alloc(), &game) else {
         panic!(rt; "out of memory");
     };
-    assert!(rt; has_node(&nodes, 2, 0, &[-65_536]));
-    assert!(rt; has_node(&nodes, 2, 1, &[-65_536]));
+    assert_eq!(rt; nodes.len(), 2);
+    assert!(rt; has_node(&nodes, 0, &[-65_536], &[65_536, 0], &[share(0, 0)]));
+    assert!(rt; has_node(&nodes, 1, &[-65_536], &[0, 65_536], &[share(1, 1)]));
     assert_eq!(rt; points.len(), 1);
     assert!(rt; has_point(&points, 0, &[1], 65_536, &[share(0, 0), share(1, 0)]));
-    assert!(rt; has_mix(&points, 0, 65_536, 0));
+    assert!(rt; plays(&points, 0, 1, 2, 0));
 }
 
 #[test]
@@ -107,11 +119,15 @@ fn seeds_of_guess_the_state_have_a_root(rt: HostRuntime) {
     let Ok((nodes, points)) = seed(rt.alloc(), &game) else {
         panic!(rt; "out of memory");
     };
-    assert!(rt; has_node(&nodes, 2, 0, &[65_536, 0]));
-    assert!(rt; has_node(&nodes, 2, 1, &[0, 65_536]));
+    assert_eq!(rt; nodes.len(), 2);
+    assert!(rt; has_node(&nodes, 0, &[65_536, 0], &[65_536, 0], &[share(0, 0)]));
+    assert!(rt; has_node(&nodes, 1, &[0, 65_536], &[0, 65_536], &[share(1, 1)]));
     assert_eq!(rt; points.len(), 3);
     assert!(rt; has_point(&points, 0, &[1, 0], 65_536, &[share(0, 0), share(1, 0)]));
     assert!(rt; has_point(&points, 1, &[0, 1], 65_536, &[share(0, 1), share(1, 1)]));
     let all = [share(0, 0), share(0, 1), share(1, 0), share(1, 1)];
     assert!(rt; has_point(&points, 2, &[1, 1], 65_536, &all));
+    for number in 0..3 {
+        assert!(rt; plays(&points, number, 2, 1, 0));
+    }
 }

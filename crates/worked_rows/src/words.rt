@@ -1,7 +1,7 @@
 //! Tests of words, numbers and limits.
 use std::test::Fail;
 use text_words::{
-    NumbersFault, below_limit, each_within, limited, number, numbers_after, split_line, words,
+    LineFault, below_limit, each_within, limited, number, numbers_after, split_line, words,
 };
 
 #[test]
@@ -30,13 +30,16 @@ fn a_line_is_cut_into_words_and_numbers(rt: HostRuntime) -> Result<(), Fail> {
 #[test]
 fn a_line_of_a_form_gives_its_numbers(rt: HostRuntime) -> Result<(), Fail> {
     let line = words(rt.alloc(), b"size 3 -2 1")?;
-    let numbers = numbers_after(rt.alloc(), &line, b"size", 3).expect(&rt, "three numbers");
+    let numbers = numbers_after(rt.alloc(), 's', 'n', &line, b"size", 3).expect(
+        &rt,
+        "three numbers",
+    );
     assert_eq!(rt; numbers.as_slice(), [3, -2, 1].as_slice());
-    let longer = numbers_after(rt.alloc(), &line, b"size", 2);
-    assert_eq!(rt; longer.err(), Some(NumbersFault::Shape));
+    let longer = numbers_after(rt.alloc(), 's', 'n', &line, b"size", 2);
+    assert_eq!(rt; longer.err(), Some(LineFault::Refused('s')));
     let other = words(rt.alloc(), b"size 3 two")?;
-    let no_number = numbers_after(rt.alloc(), &other, b"size", 2);
-    assert_eq!(rt; no_number.err(), Some(NumbersFault::Number));
+    let no_number = numbers_after(rt.alloc(), 's', 'n', &other, b"size", 2);
+    assert_eq!(rt; no_number.err(), Some(LineFault::Refused('n')));
     Ok(())
 }
 

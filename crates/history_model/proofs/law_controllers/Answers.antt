@@ -1,4 +1,5 @@
-use Rattle.history_model.proofs.Standing.{lower-half, lower-half_at, nodes-are_plans, nodes-earn, own-is_plan}
+use Rattle.history_model.proofs.Standing.{nodes-are_plans, nodes-earn}
+use Rattle.history_model.proofs.LowerHalves.{lower-half, lower-half_at, own-is_plan}
 use Rattle.history_model.proofs.law_controllers.Goals as goal
 
 pub returns : goal.returns

@@ -2,7 +2,8 @@ use Rattle.controller.specs.Certificates.{CertificateData}
 use Rattle.game_model.specs.Game.{GameData, numbers}
 use Rattle.history_model.specs.Halves.{MassesDivide}
 use Rattle.history_model.proofs.Splitting.{masses-divide}
-use Rattle.history_model.proofs.Standing.{hold-is_plan, points-are_plans, points-hold, upper-half}
+use Rattle.history_model.proofs.Standing.{points-are_plans, points-hold}
+use Rattle.history_model.proofs.UpperHalves.{hold-is_plan, upper-half}
 use Rattle.history_model.proofs.law_splittings.Goals as goal
 use Rattle.point_set.specs.Points.{points_of}
 use Rattle.std.proofs.Common.{length}

@@ -1,6 +1,6 @@
 use Rattle.std.proofs.Common.{◌≡◌, [], ◌∷◌, true}
 use Rattle.controller.specs.Certificates.{BoundAt, Holds, OutcomeAt, StartAt}
-use Rattle.cert_check.proofs.First.{first-head, first-right}
+use Rattle.scaled_num.proofs.First.{first-head, first-right}
 use Rattle.cert_check.proofs.bounds.first_end.Goals as goal
 
 pub returns-then-not-starts_right-clause-first : goal.returns-then-not-starts_right-clause-first

@@ -5,8 +5,7 @@ use Rattle.cert_check.specs.Verdicts.{place_of}
 use Rattle.cert_check.specs.declared.verdicts.Reason.{Reason}
 use Rattle.cert_check.specs.declared.verdicts.Reason.TheVariants.{Bound, Corner, Node, Outcome, Split, Start, Value}
 use Rattle.cert_check.specs.declared.verdicts.Verdict.TheVariants.{No}
-use Rattle.cert_check.proofs.First.{none-fails, once}
-use Rattle.cert_check.proofs.Order.{fails-first, first-in}
+use Rattle.scaled_num.proofs.First.{none-fails, once}
 use Rattle.cert_check.proofs.checker.check.Goals as goal
 
 -- the reason of a place
@@ -36,7 +35,7 @@ pub returns-in-None-clause-no : goal.returns-in-None-clause-no
 returns-in-None-clause-no c = λ reason.
     let g : GameData = c.args.game.now in
     let k : CertificateData = c.args.certificate.now in
-    (λ e. cc, λ f. absurd (none-fails (Holds g k) (places g k) (place_of reason) (c.in-None.ensures.none refl) (first-in g k (place_of reason) f)))
+    (λ e. cc, λ f. absurd (none-fails (Holds g k) (places g k) (place_of reason) (c.in-None.ensures.none refl) f))
 
 pub returns-in-Some-clause-yes : goal.returns-in-Some-clause-yes
 returns-in-Some-clause-yes c =
@@ -48,6 +47,6 @@ pub returns-in-Some-clause-no : goal.returns-in-Some-clause-no
 returns-in-Some-clause-no c = λ reason.
     let g : GameData = c.args.game.now in
     let k : CertificateData = c.args.certificate.now in (
-      λ e. let same : c.in-Some.reason ≡ reason = cc in subst (λ (r : Reason). FailsFirst g k (place_of r)) same (fails-first g k (place_of c.in-Some.reason) c.in-Some.ensures.first),
-      λ f. ap No (same-reason c.in-Some.reason reason (once (Holds g k) (places g k) (place_of c.in-Some.reason) (place_of reason) c.in-Some.ensures.first (first-in g k (place_of reason) f))),
+      λ e. let same : c.in-Some.reason ≡ reason = cc in subst (λ (r : Reason). FailsFirst g k (place_of r)) same c.in-Some.ensures.first,
+      λ f. ap No (same-reason c.in-Some.reason reason (once (Holds g k) (places g k) (place_of c.in-Some.reason) (place_of reason) c.in-Some.ensures.first f)),
     )

@@ -1,11 +1,11 @@
 use Rattle.std.proofs.Common.{List, [], ◌∷◌, ◌++◌, flat_map, length, refl}
 use Rattle.scaled_num.specs.Sums.{below}
 use Rattle.game_model.specs.Game.{GameData}
-use Rattle.alpha_set.proofs.Rules.{if-some}
 use Rattle.controller.specs.Certificates.{BoundAt, CertificateData, Holds, OutcomeAt, Place, StartAt, node_places, point_places, places}
-use Rattle.cert_check.specs.Verdicts.{FirstIn, place_of}
+use Rattle.scaled_num.specs.First.{FirstIn}
+use Rattle.cert_check.specs.Verdicts.{place_of}
 use Rattle.cert_check.specs.declared.verdicts.Reason.{Reason}
-use Rattle.cert_check.proofs.First.{first-left, first-right}
+use Rattle.scaled_num.proofs.First.{first-left, first-right, if-some}
 use Rattle.cert_check.proofs.checker.first_fault.Goals as goal
 
 abbrev ends : List Place

@@ -2,7 +2,7 @@ use Rattle.std.proofs.Common.{◌≡◌, ℕ, ◌<◌, ap, arith, below_more, le
 use Rattle.std.specs.List.{AllByRecursion}
 use Rattle.game_model.specs.Game.{GameData}
 use Rattle.controller.specs.Certificates.{CertificateData, Holds, NodeAt}
-use Rattle.cert_check.proofs.First.{all-flat, first-flat}
+use Rattle.scaled_num.proofs.First.{all-flat, first-flat}
 use Rattle.cert_check.proofs.Fits.{nodes-in-sets, steps-named}
 use Rattle.cert_check.proofs.Order.{node-fails, node-stands, places_of_node}
 use Rattle.cert_check.proofs.members.first_node.Goals as goal
@@ -22,7 +22,7 @@ returns-in-Some-clause-first c =
     let inside : c.loop-i.i < length k.nodes = omega (arith, ap length same, c.len-i-end.ensures.count) in
     let fails = rw same at c.in-Some.ensures.first in
     first-flat (Holds g k) (places_of_node g) (length k.nodes) c.loop-i.i (NodeAt c.loop-i.i c.in-Some.s c.in-Some.c) inside c.loop-i.invariant
-    (node-fails g k c.loop-i.i c.in-Some.s c.in-Some.c fails)
+    (node-fails g k c.loop-i.i (c.in-Some.s, c.in-Some.c) fails)
 
 pub loop-i-preserved : goal.loop-i-preserved
 loop-i-preserved c =

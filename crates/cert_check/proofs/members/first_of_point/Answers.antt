@@ -3,9 +3,10 @@ use Rattle.std.specs.List.{AllByRecursion}
 use Rattle.scaled_num.proofs.Sums.{each-append}
 use Rattle.game_model.specs.Game.{GameData}
 use Rattle.controller.specs.Certificates.{CertificateData, CornerAt, Holds, corner_places, split_places, value_places}
-use Rattle.cert_check.proofs.First.{first-left, first-right}
+use Rattle.scaled_num.proofs.First.{first-left, first-right}
+use Rattle.point_set.specs.declared.stands.PointFault.TheVariants.{Split, Value}
 use Rattle.cert_check.proofs.Fits.{points-in-sets, shares-named}
-use Rattle.cert_check.proofs.Order.{corner-fails, corner-none, point-stands, split-fails, value-fails}
+use Rattle.cert_check.proofs.Order.{corner-fails, corner-none, point-fails, point-stands}
 use Rattle.cert_check.proofs.members.first_of_point.Goals as goal
 use Rattle.cert_check.proofs.members.first_of_point.Goals.{else-j-states-via-then-j-states+else-not-is_corner, else-j-states-via-else-j-states}
 
@@ -53,7 +54,7 @@ returns-in-Some-Split-clause-first c =
     ]) in
     let same : c.certificate.inside.points.members ≡ k.points = ap (λ (k : CertificateData). k.points) c.certificate.view_is in
     let h = rw (c.in-Some-Split.field-0-is, same) at c.in-Some-Split.ensures.first in
-    first-right (Holds g k) (corner_places g c.args.j) (split_places g c.args.j ++ value_places g c.args.j) _ corner (split-fails g k c.args.j c.in-Some-Split.a c.in-Some-Split.o c.in-Some-Split.s h)
+    first-right (Holds g k) (corner_places g c.args.j) (split_places g c.args.j ++ value_places g c.args.j) _ corner (point-fails g k c.args.j (Split c.in-Some-Split.a c.in-Some-Split.o c.in-Some-Split.s) h)
 
 pub returns-in-Some-Value-clause-first : goal.returns-in-Some-Value-clause-first
 returns-in-Some-Value-clause-first c =
@@ -66,4 +67,4 @@ returns-in-Some-Value-clause-first c =
     ]) in
     let same : c.certificate.inside.points.members ≡ k.points = ap (λ (k : CertificateData). k.points) c.certificate.view_is in
     let h = rw (c.in-Some-Value.field-0-is, same) at c.in-Some-Value.ensures.first in
-    first-right (Holds g k) (corner_places g c.args.j) (split_places g c.args.j ++ value_places g c.args.j) _ corner (value-fails g k c.args.j c.in-Some-Value.a h)
+    first-right (Holds g k) (corner_places g c.args.j) (split_places g c.args.j ++ value_places g c.args.j) _ corner (point-fails g k c.args.j (Value c.in-Some-Value.a) h)

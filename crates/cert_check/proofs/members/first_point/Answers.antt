@@ -3,7 +3,7 @@ use Rattle.std.specs.List.{AllByRecursion}
 use Rattle.game_model.specs.Game.{GameData}
 use Rattle.controller.specs.Certificates.{CertificateData, Holds, point_places}
 use Rattle.cert_check.specs.Verdicts.{place_of}
-use Rattle.cert_check.proofs.First.{all-flat, first-flat}
+use Rattle.scaled_num.proofs.First.{all-flat, first-flat}
 use Rattle.cert_check.proofs.members.first_point.Goals as goal
 
 pub returns-in-Some-clause-first : goal.returns-in-Some-clause-first

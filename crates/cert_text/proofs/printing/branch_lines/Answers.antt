@@ -2,7 +2,7 @@ use Rattle.std.proofs.Common.{◌++◌, ◌∙◌, ◌≤◌, ap, arith, length,
 use Rattle.std.specs.String.{string_bytes}
 use Rattle.game_model.specs.Branches.{branch_of}
 use Rattle.cert_text.specs.Text.{branch_line}
-use Rattle.cert_text.proofs.Grown.{all-pieces, pieces-map}
+use Rattle.text_words.proofs.Grown.{all-pieces, pieces-map}
 use Rattle.cert_text.proofs.printing.branch_lines.Goals as goal
 
 pub returns : goal.returns

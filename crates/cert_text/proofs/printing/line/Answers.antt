@@ -2,7 +2,7 @@ use Rattle.std.proofs.Common.{◌++◌, [], ◌∷◌, ◌∙◌}
 use Rattle.std.specs.Fmt.{signed_decimal}
 use Rattle.std.specs.String.{string_bytes}
 use Rattle.std.proofs.lemmas.Result.{IfOk-weaker}
-use Rattle.cert_text.proofs.Grown.{line-made, pushed}
+use Rattle.text_words.proofs.Grown.{line-made, pushed}
 use Rattle.cert_text.proofs.printing.line.Goals as goal
 
 pub returns : goal.returns

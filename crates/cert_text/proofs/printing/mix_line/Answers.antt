@@ -4,7 +4,7 @@ use Rattle.std.specs.String.{string_bytes}
 use Rattle.std.proofs.lemmas.Result.{IfOk-weaker}
 use Rattle.scaled_num.specs.Sums.{below}
 use Rattle.belief.specs.Mixes.{mix_at}
-use Rattle.cert_text.proofs.Grown.{line-made, pieces-map, pushed}
+use Rattle.text_words.proofs.Grown.{line-made, pieces-map, pushed}
 use Rattle.cert_text.proofs.printing.mix_line.Goals as goal
 
 pub returns : goal.returns

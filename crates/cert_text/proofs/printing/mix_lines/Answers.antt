@@ -1,6 +1,6 @@
 use Rattle.std.specs.String.{string_bytes}
 use Rattle.cert_text.specs.Text.{mix_text}
-use Rattle.cert_text.proofs.Grown.{grown-numbered}
+use Rattle.text_words.proofs.Grown.{grown-numbered}
 use Rattle.cert_text.proofs.printing.mix_lines.Goals as goal
 
 pub loop-s-preserved : goal.loop-s-preserved

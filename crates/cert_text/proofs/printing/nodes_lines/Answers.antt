@@ -3,7 +3,7 @@ use Rattle.std.specs.Prelude.{slice_index_or}
 use Rattle.std.specs.String.{string_bytes}
 use Rattle.alpha_set.specs.Nodes.{no_node}
 use Rattle.cert_text.specs.Text.{node_text}
-use Rattle.cert_text.proofs.Grown.{grown-numbered}
+use Rattle.text_words.proofs.Grown.{grown-numbered}
 use Rattle.cert_text.proofs.printing.nodes_lines.Goals as goal
 
 pub loop-i-preserved : goal.loop-i-preserved

@@ -3,7 +3,7 @@ use Rattle.std.specs.Prelude.{slice_index_or}
 use Rattle.std.specs.String.{string_bytes}
 use Rattle.point_set.specs.Points.{PointData, no_point}
 use Rattle.cert_text.specs.Text.{point_text}
-use Rattle.cert_text.proofs.Grown.{grown-numbered}
+use Rattle.text_words.proofs.Grown.{grown-numbered}
 use Rattle.cert_text.proofs.printing.points_lines.Goals as goal
 
 pub loop-j-preserved : goal.loop-j-preserved

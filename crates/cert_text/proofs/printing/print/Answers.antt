@@ -5,8 +5,9 @@ use Rattle.scaled_num.specs.Sums.{below}
 use Rattle.alpha_set.specs.Nodes.{no_node}
 use Rattle.point_set.specs.Points.{no_point}
 use Rattle.controller.specs.Certificates.{CertificateData}
-use Rattle.cert_text.specs.Text.{certificate_text, head_text, line_of, node_text, point_text}
-use Rattle.cert_text.proofs.Grown.{behind}
+use Rattle.cert_text.specs.Text.{certificate_text, head_text, node_text, point_text}
+use Rattle.text_words.specs.Spelled.{line_of}
+use Rattle.text_words.proofs.Grown.{behind}
 use Rattle.cert_text.proofs.printing.print.Goals as goal
 
 pub returns : goal.returns

@@ -3,7 +3,7 @@ use Rattle.std.specs.Int.{w128}
 use Rattle.std.specs.Fmt.{signed_decimal}
 use Rattle.std.specs.String.{string_bytes}
 use Rattle.belief.specs.Mixes.{mix_at}
-use Rattle.cert_text.proofs.Grown.{grown-numbered}
+use Rattle.text_words.proofs.Grown.{grown-numbered}
 use Rattle.cert_text.proofs.printing.weights.Goals as goal
 
 pub loop-c-preserved : goal.loop-c-preserved

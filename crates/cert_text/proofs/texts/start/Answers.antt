@@ -10,6 +10,7 @@ returns-clause-kept c = record {
   state = omega arith;
   nodes = omega arith;
   points = omega arith;
+  sum = (omega (arith, ints), omega (arith, ints));
   lacking = each_small (pos 0) (pos 65536) (replicate 48 (pos 0)) refl;
   total = (omega (arith, ints), omega (arith, ints));
 }

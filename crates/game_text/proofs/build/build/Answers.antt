@@ -3,11 +3,11 @@ use Rattle.game_text.proofs.Runs.{Run, say_run}
 use Rattle.std.proofs.Common.{◌≡◌, List, ℤ, get_or, refl, Result, Err, ◌⊎◌, inl, inr, sym, ap, subst, ◌∙◌, arith}
 use Rattle.game_model.specs.declared.builder.GameFault.{GameFault}
 use Rattle.game_model.specs.declared.builder.GameFault.TheVariants as fault
-use Rattle.game_text.specs.declared.place.RowEntry.TheVariants as row
+use Rattle.game_text.specs.declared.progress.RowEntry.TheVariants as row
 use Rattle.game_model.specs.Game.{IsBelief}
 use Rattle.game_model.specs.Build.{IsMultiple}
 use Rattle.game_text.specs.Header.{said_by}
-use Rattle.game_text.specs.Place.{said}
+use Rattle.game_text.specs.Progress.{said}
 use Rattle.game_text.proofs.Building.{built_step, built_all}
 use Rattle.game_text.proofs.build.build.Goals as goal
 

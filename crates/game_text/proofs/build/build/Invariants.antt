@@ -1,7 +1,7 @@
 use Rattle.std.proofs.Common.{take, drop}
 use Rattle.game_text.specs.Built.{IsBuilt}
 use Rattle.game_text.specs.Header.{said_by}
-use Rattle.game_text.specs.Place.{said}
+use Rattle.game_text.specs.Progress.{said}
 use Rattle.game_text.proofs.Runs.{Run}
 use Rattle.game_text.proofs.build.build.Given as goal
 

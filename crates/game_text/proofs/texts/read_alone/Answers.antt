@@ -15,9 +15,9 @@ returns-in_err-game-clause-no_game c =
     let p = err_from_is_err_and c.from_residual.result c.from_residual.ensures.1 in
     rw (p.1, p.2) (no_text c.args.bytes.now _ c.in_err-game.ensures.refused)
 
-pub returns-then-place-bytes-clause-no_game : goal.returns-then-place-bytes-clause-no_game
-returns-then-place-bytes-clause-no_game c = λ g t.
-    whole_not_refused c.args.bytes.now g (c.in_ok-game.lines + 1) Trailing t (goes_on c.args.bytes.now c.in_ok-game.lines c.in_ok-game.place c.in_ok-game.ensures.ends (omega arith))
+pub returns-then-offset-bytes-clause-no_game : goal.returns-then-offset-bytes-clause-no_game
+returns-then-offset-bytes-clause-no_game c = λ g t.
+    whole_not_refused c.args.bytes.now g (c.in_ok-game.lines + 1) Trailing t (goes_on c.args.bytes.now c.in_ok-game.lines c.in_ok-game.offset c.in_ok-game.ensures.ends (omega arith))
 
-pub returns-then-place-bytes-clause-refused : goal.returns-then-place-bytes-clause-refused
-returns-then-place-bytes-clause-refused c = refused_behind c.args.bytes.now c.in_ok-game.lines c.in_ok-game.place c.in_ok-game.ensures.ends (omega arith)
+pub returns-then-offset-bytes-clause-refused : goal.returns-then-offset-bytes-clause-refused
+returns-then-offset-bytes-clause-refused c = refused_behind c.args.bytes.now c.in_ok-game.lines c.in_ok-game.offset c.in_ok-game.ensures.ends (omega arith)

@@ -2,13 +2,13 @@ use Rattle.std.proofs.Common.{◌≡◌, ◌+◌, ◌-◌, ◌<◌, ◌≤◌, �
 use Rattle.std.proofs.lemmas.Result.{err_from_is_err_and}
 use Rattle.text_words.specs.Lines.{lines_of, after_lines}
 use Rattle.text_words.proofs.Whole.{after_lines-length}
-use Rattle.game_text.specs.declared.place.RowEntry.{RowEntry}
+use Rattle.game_text.specs.declared.progress.RowEntry.{RowEntry}
 use Rattle.game_text.specs.Header.{said_by}
-use Rattle.game_text.specs.declared.place.RowEntry.TheVariants as row
+use Rattle.game_text.specs.declared.progress.RowEntry.TheVariants as row
 use Rattle.game_text.specs.Entries.{Entry}
 use Rattle.game_text.specs.Built.{IsBuilt, IsEnded, EndsAfter}
 use Rattle.game_text.proofs.Accept.{weights_in}
-use Rattle.game_text.specs.Place.{said, entry_in}
+use Rattle.game_text.specs.Progress.{said, entry_in}
 use Rattle.game_text.specs.Steps.{Say}
 use Rattle.game_text.proofs.Final.{found}
 use Rattle.game_text.proofs.texts.read_front.Goals as goal
@@ -53,8 +53,8 @@ overflow_add-lines c =
     (shorter c.args.bytes.now c.in_ok-header.body.now 5 c.in_ok-header.ensures.after) c.requires in
     omega (arith, few)
 
-pub overflow_sub-place : goal.overflow_sub-place
-overflow_sub-place c =
+pub overflow_sub-offset : goal.overflow_sub-offset
+overflow_sub-offset c =
     omega (arith, shorter c.args.bytes.now c.in_ok-header.body.now 5 c.in_ok-header.ensures.after, shorter c.in_ok-header.body.now c.in_ok-entries.rest.now (length c.in_ok-entries.entries.items) c.in_ok-entries.ensures.after)
 
 pub returns-clause-few : goal.returns-clause-few

@@ -1,8 +1,9 @@
 use Rattle.std.proofs.Common.{rules}
 use Rattle.osposg_cli.proofs.Due.{complete_early, complete_some, complete_whole, ends_whole, promised, read_end}
-use Rattle.osposg_cli.specs.declared.words.Command.TheVariants.{Check, Floor}
+use Rattle.osposg_cli.specs.declared.words.Command.TheVariants.{Check, Floor, Show}
 use Rattle.osposg_cli.specs.Check.{CheckPromises}
 use Rattle.osposg_cli.specs.Floor.{FloorPromises}
+use Rattle.osposg_cli.specs.Show.{ShowPromises}
 use Rattle.osposg_cli.proofs.command.run.Goals as goal
 
 pub returns-in-Ok-write_all-clause-ends : goal.returns-in-Ok-write_all-clause-ends
@@ -26,3 +27,6 @@ returns-in-Ok-write_all-clause-floor_earns g c = promised FloorPromises Floor c.
 
 pub returns-in-Ok-write_all-clause-check_proves : goal.returns-in-Ok-write_all-clause-check_proves
 returns-in-Ok-write_all-clause-check_proves g c = promised CheckPromises Check c.law_check.ensures.keeps _ _ _ _ _ _ _ c.in-Ok.ensures.due (search rules)
+
+pub returns-in-Ok-write_all-clause-show_spells : goal.returns-in-Ok-write_all-clause-show_spells
+returns-in-Ok-write_all-clause-show_spells g c = promised ShowPromises Show c.law_show.ensures.keeps _ _ _ _ _ _ _ c.in-Ok.ensures.due (search rules)

@@ -8,4 +8,4 @@ pub returns-clause-keeps : goal.returns-clause-keeps
 returns-clause-keeps c = floor-promises c.law_seeds.ensures.earn c.law_texts.ensures
 
 pub returns-clause-some : goal.returns-clause-some
-returns-clause-some c = floor_answer-some c.law_decided_alone.ensures
+returns-clause-some c = floor_answer-some c.law_seeds.ensures.exist c.law_decided_alone.ensures

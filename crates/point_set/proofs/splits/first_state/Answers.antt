@@ -6,6 +6,9 @@ use Rattle.game_model.specs.Game.{IsWithin, numbers}
 use Rattle.point_set.specs.Members.{IsAfter, IsNamed, data_of, point_data}
 use Rattle.point_set.specs.Points.{SplitHolds, most_share, point_of, points_of}
 use Rattle.game_model.specs.declared.branches.Branch.{Branch as ShareParts}
+use Rattle.scaled_num.proofs.First.{all-map, first-map}
+use Rattle.point_set.specs.Faults.{split_place}
+use Rattle.point_set.proofs.Failing.{HoldsHere}
 use Rattle.point_set.proofs.Named.{same-bits, shares-fit, split-holds, split-same}
 use borrow.Author.Count.{below_more}
 use Rattle.point_set.proofs.splits.first_state.Goals as goal
@@ -37,11 +40,8 @@ returns-then-shared-masses-clause-first c =
     let inside : s < c.args.game.now.shape.states = search (rules, arith) in
     let m : ℤ = get_or c.mass.new.out s (pos 0) in
     let here = c.mass.ensures.exact s inside in
-    record {
-      to = inside;
-      fails = λ h. c.if-shared-masses.true (ap (of_z w128) (split-same g points c.args.point.now c.args.a c.args.o s c.shares_after-shares.result.now c.shared.result m window c.shared.ensures here h));
-      before = c.loop-s.invariant;
-    }
+    first-map (HoldsHere c.args.game.now c.args.points.now c.args.point.now) (λ (t : ℕ). split_place (c.args.a, c.args.o, t)) c.args.game.now.shape.states s inside c.loop-s.invariant
+    (λ h. c.if-shared-masses.true (ap (of_z w128) (split-same g points c.args.point.now c.args.a c.args.o s c.shares_after-shares.result.now c.shared.result m window c.shared.ensures here h)))
 
 pub loop-s-preserved : goal.loop-s-preserved
 loop-s-preserved c =
@@ -56,3 +56,8 @@ loop-s-preserved c =
     let mass_fits : FitsSigned w128 m = search rules in
     below_more (λ t. SplitHolds g points (point_of (point_data c.args.point.now)) c.args.a c.args.o t) s c.loop-s.invariant
     (split-holds g points c.args.point.now c.args.a c.args.o s c.shares_after-shares.result.now c.shared.result m window c.shared.ensures here (same-bits c.shared.result m shared_fits mass_fits c.if-shared-masses.false))
+
+pub returns-clause-none : goal.returns-clause-none
+returns-clause-none c = λ none.
+    all-map (HoldsHere c.args.game.now c.args.points.now c.args.point.now) (λ (t : ℕ). split_place (c.args.a, c.args.o, t)) c.args.game.now.shape.states
+    (λ t lt. c.loop-s.invariant t (omega (arith, c.states-s-end.ensures)))

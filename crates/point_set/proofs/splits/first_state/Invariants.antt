@@ -1,8 +1,7 @@
-use Rattle.std.proofs.Common.{ℕ, ◌<◌}
-use Rattle.game_model.specs.Game.{numbers}
-use Rattle.point_set.specs.Members.{data_of, point_data}
-use Rattle.point_set.specs.Points.{SplitHolds, point_of, points_of}
+use Rattle.std.specs.Prelude.{ℕ, ◌<◌}
+use Rattle.point_set.specs.Faults.{split_place}
+use Rattle.point_set.proofs.Failing.{HoldsHere}
 use Rattle.point_set.proofs.splits.first_state.Given as goal
 
 abbrev pub invariant-loop-s : goal.invariant-loop-s
-invariant-loop-s l = (t : ℕ) → t < l.s → SplitHolds (numbers l.fn.game) (points_of (data_of l.fn.points)) (point_of (point_data l.fn.point)) l.fn.a l.fn.o t
+invariant-loop-s l = (t : ℕ) → t < l.s → HoldsHere l.fn.game l.fn.points l.fn.point (split_place (l.fn.a, l.fn.o, t))

@@ -1,0 +1,143 @@
+use Rattle.std.proofs.Common.{Bool, List, not, ◌&&◌, suc, Option, Some, None, ap, ap₂, arith, length, refl, rules, subst, sym, ◌+◌, ◌++◌, ◌∷◌, ◌≡◌, ◌≤◌, ◌∙◌, ℕ, []}
+use Rattle.std.specs.Prelude.{IsTrue, pos, ℤ}
+use Rattle.alpha_set.specs.Members.{node_data}
+use Rattle.alpha_set.specs.Nodes.{NodeData}
+use Rattle.controller.specs.Data.{ending_of, fraction_data}
+use Rattle.controller.specs.declared.certificates.Outcome.{Outcome}
+use Rattle.point_set.specs.Members.{point_data}
+use Rattle.stage_game.specs.Asked.{BeliefFits, NodesServe}
+use Rattle.stage_game.specs.Data.{lower_data, upper_data}
+use Rattle.hsvi_trial.specs.Courses.{BeginsTrial, HasPlace, IsPlace}
+use Rattle.hsvi_trial.specs.Data.{EndsWith, SearchState, search_state}
+use Rattle.hsvi_trial.specs.Ends.{IsOnward}
+use Rattle.hsvi_trial.specs.Excess.{View}
+use Rattle.hsvi_trial.specs.Looks.{IsLook, looks_from}
+use Rattle.hsvi_trial.specs.RightVisit.{Made}
+use Rattle.hsvi_trial.specs.Sets.{Sets}
+use Rattle.hsvi_trial.specs.Thresholds.{threshold}
+use Rattle.hsvi_trial.specs.declared.visits.Visit.{Visit}
+use Rattle.hsvi_trial.proofs.Beginning.{has-start}
+use Rattle.hsvi_trial.proofs.Holding.{few-visits, place-fits, place-there, trial-within}
+use Rattle.hsvi_trial.proofs.Stepped.{IsStep, ends-with, held-stepped, place-more}
+use Rattle.hsvi_trial.proofs.VisitParts.{visit_of}
+use Rattle.hsvi_trial.proofs.search.Search.step.Goals as goal
+
+pub end_of-requires-clause-start : goal.end_of-requires-clause-start
+end_of-requires-clause-start c = has-start _ c.self.inside.course c.self.inside.solver c.law_game.ensures.accepted c.self.invariant
+
+pub end_of-requires-clause-trial : goal.end_of-requires-clause-trial
+end_of-requires-clause-trial c = trial-within _ c.self.invariant.seeds _ _ _ c.self.inside.course.trial c.self.inside.course.first c.self.inside.course.next c.self.invariant.run c.self.invariant.goes
+
+pub returns-in-Some-clause-ended : goal.returns-in-Some-clause-ended
+returns-in-Some-clause-ended c =
+    let count : c.len.result ≡ length c.self.inside.journal.items = search rules in
+    let old : SearchState = search_state c.self.inside.game.now c.self.inside.trials (fraction_data c.self.inside.gap) c.self.inside.nodes c.self.inside.points c.self.inside.journal.items c.self.inside.cut in
+    let end : EndsWith old (ending_of c.in-Some.outcome) = ends-with old c.self.inside.course c.self.inside.solver c.begins-begins.result (ending_of c.in-Some.outcome) c.self.invariant
+    (λ e. subst (λ (n : ℕ). BeginsTrial n c.self.inside.course.first c.self.inside.course.next) count (c.begins-begins.ensures.0 e)) c.in-Some.ensures.ended in
+    λ outcome e.
+    let same : c.in-Some.outcome ≡ outcome = cc in
+    (refl, subst (λ (s : SearchState). EndsWith s (ending_of outcome)) c.self.view_is (subst (λ (o : Outcome). EndsWith old (ending_of o)) same end))
+
+pub place-place-requires-clause-few : goal.place-place-requires-clause-few
+place-place-requires-clause-few c =
+    let few : length c.self.inside.journal.items ≤ 1300000 = few-visits _ c.self.inside.course c.self.inside.solver c.self.invariant in
+    let same : length c.deref.result.now ≡ length c.self.inside.journal.items = ap (λ (vs : List Visit). length vs) c.deref.ensures.value in
+    omega (arith, few, same)
+
+pub make-requires-clause-belief : goal.make-requires-clause-belief
+make-requires-clause-belief c =
+    let journal : c.deref.result.now ≡ c.self.inside.journal.items = c.deref.ensures.value in
+    let at : IsPlace c.self.inside.journal.items c.self.inside.course.first c.self.inside.course.next c.place-place.result =
+    subst (λ (vs : List Visit). IsPlace vs c.self.inside.course.first c.self.inside.course.next c.place-place.result) journal c.place-place.ensures in
+    let there = place-there c.self.inside.game.now c.self.invariant.seeds _ c.self.inside.journal.items c.self.inside.course.trial c.self.inside.course.first c.self.inside.course.next c.self.invariant.goes in
+    let fits : BeliefFits c.self.inside.game.now c.place-place.result.belief = place-fits c.self.inside.game.now c.self.inside.journal.items c.self.inside.course.first c.self.inside.course.next c.place-place.result c.self.invariant.beliefs c.self.invariant.next there at in
+    fits
+
+pub keep-kept-requires-clause-belief : goal.keep-kept-requires-clause-belief
+keep-kept-requires-clause-belief c =
+    let journal : c.deref.result.now ≡ c.self.inside.journal.items = c.deref.ensures.value in
+    let at : IsPlace c.self.inside.journal.items c.self.inside.course.first c.self.inside.course.next c.place-place.result =
+    subst (λ (vs : List Visit). IsPlace vs c.self.inside.course.first c.self.inside.course.next c.place-place.result) journal c.place-place.ensures in
+    let there = place-there c.self.inside.game.now c.self.invariant.seeds _ c.self.inside.journal.items c.self.inside.course.trial c.self.inside.course.first c.self.inside.course.next c.self.invariant.goes in
+    let fits : BeliefFits c.self.inside.game.now c.place-place.result.belief = place-fits c.self.inside.game.now c.self.inside.journal.items c.self.inside.course.first c.self.inside.course.next c.place-place.result c.self.invariant.beliefs c.self.invariant.next there at in
+    fits
+
+pub keep-kept-requires-clause-nodes : goal.keep-kept-requires-clause-nodes
+keep-kept-requires-clause-nodes c = subst (NodesServe c.self.inside.game.now) (sym c.make.ensures.same_nodes) c.self.invariant.nodes
+
+pub look_on-look-requires-clause-gap : goal.look_on-look-requires-clause-gap
+look_on-look-requires-clause-gap c = c.self.invariant.limits.gap
+
+pub look_on-look-requires-clause-belief : goal.look_on-look-requires-clause-belief
+look_on-look-requires-clause-belief c =
+    let journal : c.deref.result.now ≡ c.self.inside.journal.items = c.deref.ensures.value in
+    let at : IsPlace c.self.inside.journal.items c.self.inside.course.first c.self.inside.course.next c.place-place.result =
+    subst (λ (vs : List Visit). IsPlace vs c.self.inside.course.first c.self.inside.course.next c.place-place.result) journal c.place-place.ensures in
+    let there = place-there c.self.inside.game.now c.self.invariant.seeds _ c.self.inside.journal.items c.self.inside.course.trial c.self.inside.course.first c.self.inside.course.next c.self.invariant.goes in
+    let fits : BeliefFits c.self.inside.game.now c.place-place.result.belief = place-fits c.self.inside.game.now c.self.inside.journal.items c.self.inside.course.first c.self.inside.course.next c.place-place.result c.self.invariant.beliefs c.self.invariant.next there at in
+    fits
+
+pub after-self-inside-requires-clause-trial : goal.after-self-inside-requires-clause-trial
+after-self-inside-requires-clause-trial c =
+    let within : c.self.inside.course.trial ≤ c.self.inside.trials = trial-within _ c.self.invariant.seeds _ _ _ c.self.inside.course.trial c.self.inside.course.first c.self.inside.course.next c.self.invariant.run c.self.invariant.goes in
+    let most : c.self.inside.trials ≤ 10000 = c.self.invariant.limits.trials in
+    omega (arith, within, most)
+
+pub after-self-inside-requires-clause-place : goal.after-self-inside-requires-clause-place
+after-self-inside-requires-clause-place c =
+    let count : c.len-count.result ≡ length c.make.new.journal.items = search rules in
+    let same : length c.make.new.journal.items ≡ length c.self.inside.journal.items = ap (λ (vs : List Visit). length vs) c.make.ensures.same_journal in
+    let there = place-there c.self.inside.game.now c.self.invariant.seeds _ c.self.inside.journal.items c.self.inside.course.trial c.self.inside.course.first c.self.inside.course.next c.self.invariant.goes in
+    place-more (length c.self.inside.journal.items) (c.len-count.result + 1) c.self.inside.course.first c.self.inside.course.next (omega (arith, count, same)) there
+
+pub invariant_of-self-2 : goal.invariant_of-self-2
+invariant_of-self-2 c =
+    let made : Made = record { lower = lower_data c.in_ok-made.made.lower; node = node_data c.in_ok-made.made.node; upper = upper_data c.in_ok-made.made.upper; point = point_data c.in_ok-made.made.point } in
+    let old : SearchState = search_state c.self.inside.game.now c.self.inside.trials (fraction_data c.self.inside.gap) c.self.inside.nodes c.self.inside.points c.self.inside.journal.items c.self.inside.cut in
+    let new : Sets = record { nodes = c.keep-kept.new.nodes.members; points = c.keep-kept.new.points.members } in
+    let journal : c.deref.result.now ≡ c.self.inside.journal.items = c.deref.ensures.value in
+    let at : IsPlace c.self.inside.journal.items c.self.inside.course.first c.self.inside.course.next c.place-place.result =
+    subst (λ (vs : List Visit). IsPlace vs c.self.inside.course.first c.self.inside.course.next c.place-place.result) journal c.place-place.ensures in
+    let counted : c.len.result ≡ length c.self.inside.journal.items = search rules in
+    let begin : BeginsTrial (length c.self.inside.journal.items) c.self.inside.course.first c.self.inside.course.next → IsTrue c.begins-begins.result =
+    λ b. c.begins-begins.ensures.1 (subst (λ (n : ℕ). BeginsTrial n c.self.inside.course.first c.self.inside.course.next) (sym counted) b) in
+    let onward : IsOnward old.task old.sets old.cut c.begins-begins.result c.self.inside.course.trial = c.in_default.ensures.onward refl in
+    let own : c.deref-2.result.now ≡ made.upper.own = c.deref-2.ensures.value in
+    let view : List ℤ → View = λ xs. record { sets = new; belief = c.place-place.result.belief; informed = made.lower.informed; own = xs; threshold = pos (threshold c.self.inside.game.now (fraction_data c.self.inside.gap) (suc c.place-place.result.depth)) } in
+    let look : IsLook c.self.inside.game.now (looks_from c.self.inside.game.now c.place-place.result.depth (c.place-place.result.down && not c.keep-kept.result.cut)) (view made.upper.own) c.look_on-look.result.chosen c.look_on-look.result.next =
+    subst (λ (down : Bool). IsLook c.self.inside.game.now (looks_from c.self.inside.game.now c.place-place.result.depth down) (view made.upper.own) c.look_on-look.result.chosen c.look_on-look.result.next) c.goes_down.ensures
+    (subst (λ (xs : List ℤ). IsLook c.self.inside.game.now (looks_from c.self.inside.game.now c.place-place.result.depth c.goes_down.result) (view xs) c.look_on-look.result.chosen c.look_on-look.result.next) own c.look_on-look.ensures.look) in
+    let step : IsStep old c.self.inside.course c.begins-begins.result c.place-place.result made c.make.new.nodes.members c.make.new.points.members new c.keep-kept.result.node c.keep-kept.result.point c.keep-kept.result.cut c.look_on-look.result.chosen c.look_on-look.result.next =
+    record {
+      at = at;
+      begin = begin;
+      onward = onward;
+      is_made = c.in_ok-made.ensures.made;
+      same_nodes = c.make.ensures.same_nodes;
+      same_points = c.make.ensures.same_points;
+      keeps_node = c.keep-kept.ensures.node;
+      keeps_point = c.keep-kept.ensures.point;
+      is_cut = c.keep-kept.ensures.cut;
+      node_fits = c.in_ok-made.ensures.node_fits;
+      point_fits = c.in_ok-made.ensures.point_fits;
+      node_stays = c.in_ok-made.ensures.node_stays;
+      point_stays = c.in_ok-made.ensures.point_stays;
+      serve_nodes = c.keep-kept.ensures.nodes;
+      serve_points = c.keep-kept.ensures.points;
+      look = look;
+      fits = c.look_on-look.ensures.fits;
+    } in
+    let count : c.len-count.result + 1 ≡ length c.self.inside.journal.items + 1 =
+    (let now : c.len-count.result ≡ length c.make.new.journal.items = search rules in ap (λ (n : ℕ). n + 1) (now ∙ ap (λ (vs : List Visit). length vs) c.make.ensures.same_journal)) in
+    held-stepped old c.self.inside.course c.after-self-inside.result c.self.inside.solver c.make.new.solver c.begins-begins.result c.place-place.result made c.make.new.nodes.members c.make.new.points.members new
+    c.keep-kept.result.node c.keep-kept.result.point c.keep-kept.result.cut c.look_on-look.result.chosen c.look_on-look.result.next c.make.new.journal.items c.push_reserved.new.self.items (c.len-count.result + 1)
+    c.law_game.ensures.accepted c.self.invariant step c.make.ensures.rows c.make.ensures.variables c.after-self-inside.ensures count c.push_reserved.ensures.items c.make.ensures.same_journal
+
+pub returns-clause-task : goal.returns-clause-task
+returns-clause-task c = ap (λ (s : SearchState). s.task) c.self.view_is
+
+pub returns-clause-visited : goal.returns-clause-visited
+returns-clause-visited c =
+    let same : c.self.inside.journal.items ≡ c.args.self.now.journal = ap (λ (s : SearchState). s.journal) c.self.view_is in
+    let visit : Visit = visit_of c.self.inside.course.trial c.place-place.result c.keep-kept.result.node c.keep-kept.result.point c.look_on-look.result.chosen in
+    λ _. (visit, c.push_reserved.ensures.items ∙ ap (λ (vs : List Visit). vs ++ visit ∷ []) (c.make.ensures.same_journal ∙ same))

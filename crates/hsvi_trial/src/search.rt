@@ -1,0 +1,194 @@
+//! A search by single visits.
+
+ghost use Rattle.controller.specs.Certificates.{IsGap};
+ghost use Rattle.controller.specs.Data.{ending_of, fraction_data};
+ghost use Rattle.hsvi_trial.specs.Data.{EndsWith, IsSearch};
+ghost use Rattle.hsvi_trial.specs.Held.{HasRooms};
+ghost use Rattle.hsvi_trial.specs.Laws.{most_visits};
+ghost use Rattle.hsvi_trial.specs.Run.{most_trials};
+ghost use Rattle.hsvi_trial.specs.Sets.{AreSeedSets};
+ghost use Rattle.hsvi_trial.specs.declared.visits.Visit.{Visit as VisitParts};
+ghost use Rattle.std.specs.Prelude.{IfOk, OnErr, OnOk, [], false, length, ◌*◌, ◌++◌, ◌∷◌, ◌≡◌, ◌≤◌};
+
+use crate::choices::look_on;
+use crate::courses::Course;
+use crate::ends::end_of;
+use crate::visiting::{keep, make};
+use crate::visits::Visit;
+use alpha_set::{MOST_NODES, NodeSet};
+use backup::seed;
+use controller::Outcome;
+use game_model::{Game, law_game};
+use point_set::{MOST_POINTS, PointSet};
+use scaled_num::Fraction;
+use simplex::Solver;
+use std::alloc::{AllocError, Global};
+use std::marker::Model;
+
+/// What a step did.
+#[derive(Debug, Drop)]
+pub enum Progress {
+    /// It made the next visit.
+    Visited,
+    /// The run has no further visit.
+    Ended(Outcome),
+}
+
+/// A search by single visits: sets, the journal of the visits that filled them, and where the next one is made.
+#[derive(Drop)]
+pub struct Search<'g> {
+    alloc: Global,
+    game: &'g Game,
+    trials: u32,
+    gap: Fraction,
+    solver: Solver,
+    nodes: NodeSet,
+    points: PointSet,
+    journal: Vec<Visit>,
+    course: Course,
+    /// Whether the last visit was cut.
+    cut: bool,
+}
+
+impl<'g> Model for Search<'g> {
+    ghost use Rattle.controller.specs.Data.{fraction_data};
+    ghost use Rattle.hsvi_trial.specs.Data.{SearchState, search_state};
+    ghost use Rattle.hsvi_trial.specs.Held.{IsHeld};
+
+    ghost Value = { SearchState };
+
+    ghost view = { λ s. search_state s.game.now s.trials (fraction_data s.gap) s.nodes s.points s.journal.items s.cut };
+
+    ghost invariant = { λ s. IsHeld (search_state s.game.now s.trials (fraction_data s.gap) s.nodes s.points s.journal.items s.cut) s.course s.solver };
+}
+
+impl<'g> Search<'g> {
+    /// A search that holds the seeds and no visit, of at most so many trials, until the bounds are within the gap.
+    ///
+    /// # Errors
+    ///
+    /// Where no memory is to be had.
+    pub fn new(
+        alloc: Global,
+        game: &'g Game,
+        trials: u32,
+        gap: &Fraction,
+    ) -> Result<Search<'g>, AllocError>
+        requires trials { trials ≤ most_trials }
+        requires gap { IsGap (fraction_data gap.now) }
+        ensures task { IfOk result (λ search. search.task ≡ record { game = game.now; trials = trials; gap = fraction_data gap.now }) }
+        ensures seeds { IfOk result (λ search. AreSeedSets game.now search.sets) }
+        ensures none { IfOk result (λ search. search.journal ≡ []) }
+        ensures uncut { IfOk result (λ search. search.cut ≡ false) }
+    {
+        law_game(game);
+        let (nodes, points) = seed(alloc, game)?;
+        prove!(nodes.len() as usize <= MOST_NODES);
+        prove!(points.len() as usize <= MOST_POINTS);
+        let mut solver = Solver::new(alloc);
+        reserve_solver(&mut solver, game)?;
+        Ok(Search {
+            alloc,
+            game,
+            trials,
+            gap: *gap,
+            solver,
+            nodes,
+            points,
+            journal: Vec::new(alloc),
+            course: Course::new(game),
+            cut: false,
+        })
+    }
+
+    /// The number of visits.
+    pub fn visits(&self) -> u32
+        ensures count { result ≡ length self.now.journal }
+        ensures few { result ≤ self.now.task.trials * most_visits }
+        ensures kept { IsSearch self.now }
+    {
+        self.journal.len() as u32
+    }
+
+    /// Makes the next visit, or tells how the run ended.
+    ///
+    /// # Errors
+    ///
+    /// Where no memory is to be had. Sets and journal are then as before, and a later step makes the same visit.
+    pub fn step(&mut self) -> Result<Progress, AllocError>
+        ensures task { self.new.task ≡ self.old.task }
+        ensures visited { result ≡ Ok Progress.Visited → (visit : VisitParts) × (self.new.journal ≡ self.old.journal ++ visit ∷ []) }
+        ensures ended { (outcome : Outcome) → result ≡ Ok (Progress.Ended outcome) → (self.new ≡ self.old) × EndsWith self.old (ending_of outcome) }
+        ensures unchanged { OnErr result (self.new ≡ self.old) }
+    {
+        law_game(self.game);
+        let begins = self.course.begins(self.journal.len());
+        if let Some(outcome) = end_of(
+            self.game,
+            self.trials,
+            &self.gap,
+            &self.nodes,
+            &self.points,
+            self.cut,
+            begins,
+            self.course.trial,
+        ) {
+            return Ok(Progress::Ended(outcome));
+        }
+        let place = self.course.place(&self.journal);
+        let made = make(
+            self.alloc,
+            &mut self.solver,
+            self.game,
+            &place.belief,
+            &mut self.nodes,
+            &mut self.points,
+            &mut self.journal,
+        )?;
+        let kept = keep(
+            self.game,
+            &mut self.nodes,
+            &mut self.points,
+            &place.belief,
+            made.node,
+            made.point,
+        );
+        let look = look_on(
+            self.game,
+            &self.gap,
+            &self.nodes,
+            &self.points,
+            &place.belief,
+            place.depth,
+            place.goes_down(kept.cut),
+            &made.lower.informed,
+            &made.upper.own,
+        );
+        let trial = self.course.trial;
+        let count = self.journal.len() + 1;
+        self.course = self.course.after(self.game, place.depth, count, look.next);
+        self.cut = kept.cut;
+        self.journal.push_reserved(Visit {
+            trial,
+            depth: place.depth,
+            belief: place.belief,
+            down: place.down,
+            node: kept.node,
+            point: kept.point,
+            chosen: look.chosen,
+        });
+        Ok(Progress::Visited)
+    }
+}
+
+/// Makes room in a solver for the programs of every visit of a game.
+fn reserve_solver(solver: &mut Solver, game: &Game) -> Result<(), AllocError>
+    ensures { OnOk result (HasRooms game.now solver.new) }
+{
+    law_game(game);
+    let (states, own, seen) = (game.states(), game.own_actions(), game.observations());
+    let informed = game.informed_actions();
+    let rows = states * informed + own * seen * (states + 8) + 1;
+    let variables = states + own + own * seen * 16;
+    solver.reserve(rows, variables)
+}

@@ -1,6 +1,0 @@
-use Rattle.std.proofs.Common.{ℕ, ◌<◌}
-use Rattle.simplex.specs.Program.{at, IsNarrow}
-use Rattle.simplex.proofs.tests.all_narrow.Given as goal
-
-abbrev pub invariant-loop-place : goal.invariant-loop-place
-invariant-loop-place l = (k : ℕ) → k < l.place → IsNarrow (at l.row k)
