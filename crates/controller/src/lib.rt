@@ -4,6 +4,7 @@
 mod bounds;
 mod branches;
 mod certificates;
+mod exporting;
 mod laws;
 mod nodes;
 mod points;
@@ -12,5 +13,6 @@ mod sums;
 
 pub use bounds::{bound_scale, lower_bound, start_mass, tail, upper_bound};
 pub use certificates::{Certificate, MOST_GAP, MOST_GAP_UNDER, Outcome};
+pub use exporting::export;
 pub use laws::{law_members, law_places};
 pub use starts::{MOST_FROM, MOST_OVER, sum_of_weights};

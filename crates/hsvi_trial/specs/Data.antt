@@ -1,8 +1,9 @@
 -- What a search and solve answer, as the data that the rules speak of.
 use Rattle.controller.specs.Data.{ending_of}
-use Rattle.std.specs.Prelude.{ℕ, Bool, List}
+use Rattle.std.specs.Prelude.{ℕ, pos, Bool, List, [], ◌∷◌}
 use Rattle.alpha_set.specs.Nodes.{NodeData}
 use Rattle.controller.specs.Certificates.{Ending, FractionData}
+use Rattle.controller.specs.Parts.{Parts}
 use Rattle.game_model.specs.Game.{GameData}
 use Rattle.game_model.specs.Sets.{SetData}
 use Rattle.point_set.specs.Points.{PointData}
@@ -24,6 +25,18 @@ solved_data solved = record {
   start = record { node = solved.start_node; points = solved.start_points.items; multiple = solved.multiple };
   outcome = ending_of solved.outcome;
   journal = solved.journal.items;
+}
+
+-- what a run found, with its start and outcome, as the parts of a certificate
+abbrev pub solved_parts : FractionData → SolvedData → Parts
+solved_parts gap solved = record {
+  nodes = solved.sets.nodes;
+  points = solved.sets.points;
+  start_nodes = (solved.start.node, pos 1) ∷ [];
+  start_points = solved.start.points;
+  multiple = solved.start.multiple;
+  gap = gap;
+  outcome = solved.outcome;
 }
 
 -- what clauses see of a search: its task, sets and journal, and whether the last visit was cut

@@ -18,6 +18,6 @@ mod visits;
 pub use laws::{law_growth, law_members};
 pub use one_run::{law_beginning, law_one, law_short};
 pub use search::{Progress, Search};
-pub use solving::Solved;
+pub use solving::{Solved, solve};
 pub use starts::StartOf;
 pub use visits::Visit;

