@@ -4,3 +4,4 @@ pub mod Members
 pub mod StartTests
 pub mod Totals
 pub mod StartSums
+pub mod OneExport

@@ -28,9 +28,9 @@ pub record IsReached (branches : ℕ → List Branch) (IsFirst : ℕ → Type 0)
   pub way : List ℕ
   pub is_way : IsWay branches first way j
 
--- kept are just the members, of so many, that are reached
+-- kept are just those of so many members that are reached
 abbrev pub AreKept : (ℕ → List Branch) → (ℕ → Type 0) → ℕ → (ℕ → Bool) → Type 0
-AreKept branches IsFirst count kept = (j : ℕ) → j < count → IsTrue (kept j) ↔ IsReached branches IsFirst j
+AreKept branches IsFirst count kept = (j : ℕ) → IsTrue (kept j) ↔ ((j < count) × IsReached branches IsFirst j)
 
 -- a start names the member j
 pub record IsAtStart (starts : List (ℕ × ℤ)) (j : ℕ) : Type 0 where
@@ -99,3 +99,7 @@ pub record IsExport (g : GameData) (parts : Parts) (k : CertificateData) : Type 
   pub nodes_reached : AreKept (steps_of parts.nodes) (IsAtStart parts.start_nodes) (length parts.nodes) nodes
   pub points_reached : AreKept (shares_of parts.points) (IsAtCornerOrStart g.shape.states parts.start_points) (length parts.points) points
   pub same : k ≡ with_bounds (parts_kept nodes points parts) (proved_lower g parts) (proved_upper g parts) (proved_tail g)
+
+-- the export of parts is one
+abbrev pub ExportsAreOne : Type 0
+ExportsAreOne = (g : GameData) (parts : Parts) (k other : CertificateData) → IsExport g parts k → IsExport g parts other → k ≡ other

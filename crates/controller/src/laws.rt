@@ -1,5 +1,6 @@
 //! Laws of certificates: what the members of one that fits have, and that it stands by the rules of its places.
 
+ghost use Rattle.controller.specs.Export.{ExportsAreOne};
 ghost use Rattle.controller.specs.Members.{MembersKeep, StandsByRules};
 
 /// A law: what the members of every certificate that fits have. The mix of a node sums to the total of a mix, after each
@@ -13,4 +14,9 @@ pub fn law_members()
 /// A law: a certificate that fits stands exactly where the rule of each of its places holds.
 pub fn law_places()
     ensures { StandsByRules }
+{}
+
+/// A law: the export of parts is one.
+pub fn law_export()
+    ensures one { ExportsAreOne }
 {}
