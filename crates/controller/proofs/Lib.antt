@@ -5,3 +5,8 @@ pub mod StartTests
 pub mod Totals
 pub mod StartSums
 pub mod OneExport
+pub mod Listed
+pub mod Reaching
+pub mod Renumbering
+pub mod KeptBranches
+pub mod KeptParts

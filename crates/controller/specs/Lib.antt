@@ -5,3 +5,4 @@ pub mod Starts
 pub mod Parts
 pub mod Export
 pub mod Sums
+pub mod Reached

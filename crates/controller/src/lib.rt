@@ -5,9 +5,13 @@ mod bounds;
 mod branches;
 mod certificates;
 mod exporting;
+mod found;
+mod kept;
 mod laws;
 mod nodes;
+mod numbering;
 mod points;
+mod reached;
 mod starts;
 mod sums;
 
