@@ -1,8 +1,7 @@
 -- Branches and starts under new numbers.
-use Rattle.std.proofs.Common.{◌≡◌, ℕ, suc, ◌<◌, ◌≤◌, Bool, true, false, cond, List, [], ◌∷◌, ◌++◌, length, get_or, map, refl, ap, arith, sym, subst, ◌∙◌, inl, inr, filter, ◌==◌, ◌&&◌}
+use Rattle.std.proofs.Common.{◌≡◌, ℕ, suc, ◌<◌, ◌≤◌, Bool, List, [], ◌∷◌, length, map, refl, ap, sym, subst, ◌∙◌, inl, inr, ◌==◌, ◌&&◌}
 use Rattle.std.specs.Prelude.{ℤ, pos, IsTrue, sum_by, unsigned_abs, ◌⊎◌, ◌*ℤ◌}
 use Rattle.std.specs.List.{AllByRecursion}
-use Rattle.std.proofs.lemmas.List.{length-map}
 use Rattle.scaled_num.specs.Sums.{total}
 use Rattle.scaled_num.proofs.Sums.{each-map, total-map, total-pos, total-same}
 use Rattle.game_model.specs.Branches.{AreBranches, AreRising, Branch, Continuation, IsBranch, IsBranchBefore, branches_at, continuation_of, continuations_at}

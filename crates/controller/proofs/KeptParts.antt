@@ -1,14 +1,13 @@
 -- What the reached members of parts that fit are, and the parts under their new numbers.
-use Rattle.std.proofs.Common.{◌≡◌, ℕ, ◌+◌, ◌*◌, ◌<◌, ◌≤◌, ◌^◌, Bool, List, length, get_or, map, refl, ap, arith, sym, subst, ◌∙◌, inl, inr}
-use Rattle.std.specs.Prelude.{ℤ, pos, IsTrue, slice_index_or}
+use Rattle.std.proofs.Common.{ℕ, ◌<◌, Bool, List, length, get_or, arith, sym, subst, ◌∙◌, inl, inr}
+use Rattle.std.specs.Prelude.{ℤ, pos, IsTrue}
 use Rattle.std.specs.List.{AllByRecursion}
-use Rattle.scaled_num.proofs.Sums.{each-at, each-map}
+use Rattle.scaled_num.proofs.Sums.{each-at}
 use Rattle.alpha_set.specs.Nodes.{NodeData, NodeFits, no_node}
 use Rattle.game_model.specs.Branches.{Branch, IsBranch, mix_total}
 use Rattle.game_model.specs.Game.{GameData, numbers}
 use Rattle.game_model.proofs.Pay.{each-from}
 use Rattle.point_set.specs.Points.{PointData, PointFits, most_share, no_point}
-use Rattle.controller.specs.Certificates.{CertificateFits}
 use Rattle.controller.specs.Export.{AreKept, IsAtCornerOrStart, IsAtStart, nodes_kept, new_number, points_kept, renumbered_node, renumbered_point, shares_of, steps_of}
 use Rattle.controller.specs.Parts.{Parts, PartsFit}
 use Rattle.controller.specs.Reached.{NameMembers}

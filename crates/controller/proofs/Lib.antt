@@ -10,3 +10,6 @@ pub mod Reaching
 pub mod Renumbering
 pub mod KeptBranches
 pub mod KeptParts
+pub mod KeptRules
+pub mod ExportFits
+pub mod ExportStands

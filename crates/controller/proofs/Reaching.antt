@@ -1,7 +1,6 @@
 -- Members that are found one after the other, and in the end all that are reached.
-use Rattle.std.proofs.Common.{◌≡◌, ℕ, zero, suc, ◌+◌, ◌<◌, ◌≤◌, Bool, true, false, cond, List, [], ◌∷◌, ◌++◌, length, get_or, map, set, refl, ap, arith, sym, subst, ◌∙◌, inl, inr}
+use Rattle.std.proofs.Common.{◌≡◌, ℕ, zero, suc, ◌+◌, ◌<◌, ◌≤◌, Bool, true, false, cond, List, [], ◌∷◌, ◌++◌, length, get_or, set, refl, ap, arith, sym, subst, ◌∙◌, inl, inr}
 use Rattle.std.specs.Prelude.{IsTrue, count_by, not, replicate, ◌↔◌, ◌⊎◌}
-use Rattle.std.specs.List.{AllByRecursion}
 use Rattle.std.proofs.lemmas.List.{get_or-set_same, get_or-set_other, get_or_append_left, length-append, length-set}
 use Rattle.std.proofs.lemmas.List.Sums.{sum_by-set}
 use Rattle.scaled_num.proofs.Sums.{each-append, each-at}
@@ -9,7 +8,7 @@ use Rattle.game_model.specs.Branches.{Branch}
 use Rattle.game_model.proofs.Least.{last-or}
 use Rattle.game_model.proofs.Pay.{each-from}
 use Rattle.controller.specs.Export.{AreKept, IsReached, IsWay, LeadTo}
-use Rattle.controller.specs.Reached.{AreFound, FindsAlso, GoesOn, IsListed, MarksAlso, NameMembers, flag_at, members_of}
+use Rattle.controller.specs.Reached.{AreFound, FindsAlso, IsListed, NameMembers, flag_at, members_of}
 use Rattle.controller.proofs.Listed.{leads, led-one, listed-front, listed-last}
 
 true-not_false : (b : Bool) → b ≡ false → IsTrue b → ⊥

@@ -1,6 +1,6 @@
 -- New numbers: those of kept members rise, and the members that are kept stand at them.
 use Rattle.std.proofs.Common.{◌≡◌, ℕ, zero, suc, ◌+◌, ◌-◌, ◌<◌, ◌≤◌, Bool, true, false, cond, List, [], ◌∷◌, ◌++◌, length, get_or, map, refl, ap, arith, sym, subst, ◌∙◌, inl, inr, filter, add-one}
-use Rattle.std.specs.Prelude.{IsTrue, count_by}
+use Rattle.std.specs.Prelude.{IsTrue}
 use Rattle.std.specs.List.{AllByRecursion, range_with_len}
 use Rattle.std.proofs.lemmas.List.{get_or_append_left, length-append, length-map, map-append}
 use Rattle.std.proofs.lemmas.List.Elements.{filter-append}
@@ -12,7 +12,6 @@ use Rattle.scaled_num.proofs.Sums.{below-each, each-at, each-map}
 use Rattle.game_model.proofs.Least.{last-or}
 use Rattle.game_model.proofs.Pay.{each-from}
 use Rattle.controller.specs.Export.{kept_below, new_number}
-use Rattle.controller.proofs.Members.{each-filter}
 
 -- ---- one number more
 range-more : (a n : ℕ) → range_with_len a (suc n) ≡ range_with_len a n ++ (a + n) ∷ []

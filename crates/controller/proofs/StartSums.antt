@@ -137,7 +137,7 @@ total-most g points starts times m =
     ends a b c d h e f = omega (arith, sums)
 
 -- a weight times a value within the span
-weighted-small : (V z y t m b : ℕ) → V ≤ 2 ^ 66 → y ≤ V * t → z * t ≤ m * b → m ≤ 2 ^ 16 → b ≤ 2 ^ 20 → z * y ≤ 2 ^ 110
+weighted-small : (V z y t m b : ℕ) → V ≤ 2 ^ 66 → y ≤ V * t → z * t ≤ m * b → m ≤ 2 ^ 16 → b ≤ 2 ^ 20 → z * y ≤ 2 ^ 102
 weighted-small V z y t m b lv ly lt lm lb =
     let first : z * y ≤ z * (V * t) = mul-le z y z (V * t) (omega arith) ly in
     let same : z * (V * t) ≡ V * (z * t) = omega arith in
@@ -145,9 +145,10 @@ weighted-small V z y t m b lv ly lt lm lb =
     let second : V * (z * t) ≤ 2 ^ 66 * (2 ^ 16 * 2 ^ 20) = mul-le V (z * t) (2 ^ 66) (2 ^ 16 * 2 ^ 20) lv (omega (arith, lt, room)) in
     omega (arith, first, same, second)
 
-pub values-small : (g : GameData) (points : List PointData) (starts : List (ℕ × ℤ)) (times : ℤ) → MakeUp g points starts times → AllByRecursion (IsSmallValue points) starts
-values-small g points starts times m =
-    each-two (IsStart (length points) (pos most_over)) _ (IsSmallValue points) starts
+pub values-tight : (g : GameData) (points : List PointData) (starts : List (ℕ × ℤ)) (times : ℤ) → MakeUp g points starts times →
+    AllByRecursion (λ (start : ℕ × ℤ). unsigned_abs (start.1 *ℤ (points_of points start.0).value) ≤ 2 ^ 102) starts
+values-tight g points starts times m =
+    each-two (IsStart (length points) (pos most_over)) _ (λ (start : ℕ × ℤ). unsigned_abs (start.1 *ℤ (points_of points start.0).value) ≤ 2 ^ 102) starts
     (λ start i upto.
     let point = point-in g points m.all start.0 i.0 in
     let mass : ℤ = sum_of (point_at points start.0).belief in
@@ -183,6 +184,10 @@ values-small g points starts times m =
       where
         down : (x y : ℕ) → pos x ≤ℤ pos y → x ≤ y
         down x y l = omega (arith, ints)
+
+pub values-small : (g : GameData) (points : List PointData) (starts : List (ℕ × ℤ)) (times : ℤ) → MakeUp g points starts times → AllByRecursion (IsSmallValue points) starts
+values-small g points starts times m =
+    each-from (λ (start : ℕ × ℤ). unsigned_abs (start.1 *ℤ (points_of points start.0).value) ≤ 2 ^ 102) (IsSmallValue points) starts (λ start l. omega (arith, l)) (values-tight g points starts times m)
 
 -- ---- one term of a sum
 pub record PartFits (x b : ℤ) : Type 0 where

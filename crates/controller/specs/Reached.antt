@@ -1,9 +1,11 @@
 -- Flags of members, and the members that are marked so far.
-use Rattle.std.specs.Prelude.{ℕ, Bool, false, IsTrue, List, count_by, length, map, not, slice_index_or, ◌+◌, ◌++◌, ◌<◌, ◌≡◌, ◌↔◌, ◌⊎◌}
+use Rattle.std.specs.Prelude.{ℕ, ℤ, Bool, false, IsTrue, List, count_by, length, map, not, slice_index_or, ◌+◌, ◌++◌, ◌<◌, ◌≡◌, ◌↔◌, ◌⊎◌}
 use Rattle.std.specs.List.{AllByRecursion}
 use Rattle.scaled_num.specs.Sums.{below}
-use Rattle.controller.specs.Export.{new_number}
+use Rattle.alpha_set.specs.Nodes.{NodeData}
+use Rattle.controller.specs.Export.{AreKept, IsAtCornerOrStart, IsAtStart, new_number, nodes_kept, points_kept, renumbered_starts, shares_of, steps_of}
 use Rattle.game_model.specs.Branches.{Branch}
+use Rattle.point_set.specs.Points.{PointData}
 
 -- the flag of a member
 abbrev pub flag_at : List Bool → ℕ → Bool
@@ -48,3 +50,17 @@ NameMembers count branches = (i : ℕ) → i < count → AllByRecursion (λ b. b
 -- the new number of each member, by these flags
 abbrev pub new_numbers : List Bool → List ℕ
 new_numbers flags = map (new_number (flag_at flags)) (below (length flags))
+
+-- these are the nodes that starts reach by steps, and the starts, under new numbers
+pub record AreExportedNodes (nodes : List NodeData) (starts : List (ℕ × ℤ)) (new : List NodeData) (new_starts : List (ℕ × ℤ)) : Type 0 where
+  pub kept : ℕ → Bool
+  pub reached : AreKept (steps_of nodes) (IsAtStart starts) (length nodes) kept
+  pub members : new ≡ nodes_kept kept nodes
+  pub starts_too : new_starts ≡ renumbered_starts kept starts
+
+-- these are the points that corners and starts reach by shares, and the starts, under new numbers
+pub record AreExportedPoints (states : ℕ) (points : List PointData) (starts : List (ℕ × ℤ)) (new : List PointData) (new_starts : List (ℕ × ℤ)) : Type 0 where
+  pub kept : ℕ → Bool
+  pub reached : AreKept (shares_of points) (IsAtCornerOrStart states starts) (length points) kept
+  pub members : new ≡ points_kept kept points
+  pub starts_too : new_starts ≡ renumbered_starts kept starts

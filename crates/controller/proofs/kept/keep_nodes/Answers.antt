@@ -1,4 +1,4 @@
-use Rattle.std.proofs.Common.{◌≡◌, ◌∙◌, ◌<◌, ℕ, Bool, false, true, List, length, map, ap, arith, get_or, not, sym, subst}
+use Rattle.std.proofs.Common.{◌≡◌, ◌∙◌, ◌<◌, ℕ, Bool, false, true, List, length, ap, arith, get_or, sym, subst}
 use Rattle.std.specs.List.{AllByRecursion}
 use Rattle.alpha_set.specs.Members.{node_data}
 use Rattle.alpha_set.specs.Nodes.{NodeData, no_node}

@@ -1,4 +1,4 @@
-use Rattle.std.proofs.Common.{◌≡◌, ◌∙◌, ◌<◌, ℕ, Bool, false, true, List, length, map, ap, arith, get_or, not, sym, subst}
+use Rattle.std.proofs.Common.{◌≡◌, ◌∙◌, ◌<◌, ℕ, Bool, false, true, List, length, ap, arith, get_or, sym, subst}
 use Rattle.std.specs.List.{AllByRecursion}
 use Rattle.point_set.specs.Members.{point_data}
 use Rattle.point_set.specs.Points.{PointData, no_point}

@@ -1,4 +1,4 @@
-use Rattle.std.proofs.Common.{◌<◌, ℕ, length, map, subst}
+use Rattle.std.proofs.Common.{◌<◌, length}
 use Rattle.std.specs.Prelude.{pos}
 use Rattle.game_model.specs.Branches.{Branch, branch_of}
 use Rattle.game_model.specs.declared.branches.Branch.{Branch as BranchParts}

@@ -1,5 +1,5 @@
-use Rattle.std.proofs.Common.{◌≡◌, ◌∙◌, ◌<◌, ◌≤◌, ℕ, Bool, List, ap, arith, false, get_or, inl, inr, length, map, rules, sym, subst}
-use Rattle.std.specs.Prelude.{ℤ, replicate, ◌↔◌, ◌⊎◌}
+use Rattle.std.proofs.Common.{◌≡◌, ◌∙◌, ◌<◌, ◌≤◌, ℕ, Bool, List, ap, arith, false, get_or, length, map, rules, sym, subst}
+use Rattle.std.specs.Prelude.{ℤ, replicate}
 use Rattle.std.specs.List.{AllByRecursion}
 use Rattle.std.proofs.lemmas.List.{get_or_default}
 use Rattle.alpha_set.specs.Nodes.{NodeData, no_node}
@@ -11,7 +11,7 @@ use Rattle.alpha_set.specs.declared.nodes.Node.{Node as NodeParts}
 use Rattle.controller.specs.Export.{IsAtStart, steps_of}
 use Rattle.controller.specs.Reached.{FindsAlso, IsListed, members_of}
 use Rattle.controller.proofs.Listed.{start-one, starts-at}
-use Rattle.controller.proofs.Reaching.{find-both, reaching-end, reaching-first, reaching-inside, reaching-next}
+use Rattle.controller.proofs.Reaching.{reaching-end, reaching-first, reaching-inside, reaching-next}
 use Rattle.controller.proofs.reached.reached_nodes.Goals as goal
 
 abbrev numbers_of : List (ℕ × ℤ) → List ℕ

@@ -1,4 +1,4 @@
-use Rattle.std.proofs.Common.{ℕ, length, ◌-◌, ◌≤◌}
+use Rattle.std.proofs.Common.{length, ◌-◌}
 use Rattle.controller.specs.Export.{IsAtStart, steps_of}
 use Rattle.controller.proofs.Reaching.{Reaching}
 use Rattle.controller.proofs.reached.reached_nodes.Given as goal

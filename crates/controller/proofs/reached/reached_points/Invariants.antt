@@ -1,4 +1,4 @@
-use Rattle.std.proofs.Common.{ℕ, length, ◌-◌, ◌≤◌}
+use Rattle.std.proofs.Common.{length, ◌-◌}
 use Rattle.controller.specs.Export.{IsAtCornerOrStart, shares_of}
 use Rattle.controller.proofs.Reaching.{Reaching}
 use Rattle.controller.proofs.reached.reached_points.Given as goal

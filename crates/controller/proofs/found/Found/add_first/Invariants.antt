@@ -1,4 +1,4 @@
-use Rattle.std.proofs.Common.{ℕ, ◌<◌}
+use Rattle.std.proofs.Common.{◌<◌}
 use Rattle.controller.specs.Reached.{FindsAlso}
 use Rattle.controller.proofs.found.Found.add_first.Given as goal
 

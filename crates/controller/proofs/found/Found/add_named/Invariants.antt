@@ -1,4 +1,4 @@
-use Rattle.std.proofs.Common.{ℕ, map, take}
+use Rattle.std.proofs.Common.{map, take}
 use Rattle.controller.specs.Reached.{FindsAlso, IsListed, members_of}
 use Rattle.game_model.specs.Branches.{branch_of}
 use Rattle.controller.proofs.found.Found.add_named.Given as goal

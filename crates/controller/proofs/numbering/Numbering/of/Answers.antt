@@ -1,4 +1,4 @@
-use Rattle.std.proofs.Common.{◌≡◌, ◌∙◌, ◌<◌, ◌≤◌, ◌+◌, ◌∷◌, ◌++◌, [], ℕ, Bool, List, cond, get_or, length, map, ap, arith, false, true, refl, rules, sym, subst}
+use Rattle.std.proofs.Common.{◌≡◌, ◌∙◌, ◌+◌, ◌∷◌, ◌++◌, [], ℕ, Bool, cond, length, map, ap, arith, false, true, refl, rules}
 use mir.Val.{bool_byte}
 use Rattle.scaled_num.specs.Sums.{below}
 use Rattle.controller.specs.Export.{new_number}

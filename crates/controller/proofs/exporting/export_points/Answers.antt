@@ -1,0 +1,26 @@
+use Rattle.std.proofs.Common.{◌≡◌, ◌∙◌, ◌<◌, ℕ, Bool, List, ap, length, sym, subst}
+use Rattle.std.specs.Prelude.{ℤ}
+use Rattle.std.specs.List.{AllByRecursion}
+use Rattle.controller.specs.Export.{points_kept, renumbered_starts}
+use Rattle.controller.specs.Reached.{flag_at}
+use Rattle.controller.proofs.KeptParts.{shares-inside}
+use Rattle.controller.proofs.exporting.export_points.Goals as goal
+
+pub reached_points-requires-clause-named : goal.reached_points-requires-clause-named
+reached_points-requires-clause-named c = shares-inside c.args.game.now c.args.points.now.members c.requires.points.each
+
+pub keep_points-requires-clause-named : goal.keep_points-requires-clause-named
+keep_points-requires-clause-named c = shares-inside c.args.game.now c.args.points.now.members c.requires.points.each
+
+pub renumber_starts-requires : goal.renumber_starts-requires
+renumber_starts-requires c =
+    let long : length c.in_ok-numbering.numbering ≡ length c.args.points.now.members = ap length c.in_ok-numbering.ensures ∙ c.in_ok-flags.ensures.long in
+    subst (λ (n : ℕ). AllByRecursion (λ (start : ℕ × ℤ). start.0 < n) c.args.starts.now) (sym long) c.requires.starts
+
+pub returns : goal.returns
+returns c = record {
+  kept = flag_at c.in_ok-flags.flags.items;
+  reached = c.in_ok-flags.ensures.kept;
+  members = c.in_ok-kept.ensures ∙ ap (λ (flags : List Bool). points_kept (flag_at flags) c.args.points.now.members) c.in_ok-numbering.ensures;
+  starts_too = c.in_ok-kept_starts.ensures ∙ ap (λ (flags : List Bool). renumbered_starts (flag_at flags) c.args.starts.now) c.in_ok-numbering.ensures;
+}
