@@ -8,7 +8,7 @@ use Rattle.game_model.specs.Branches.{Branch}
 use Rattle.game_model.proofs.Least.{last-or}
 use Rattle.game_model.proofs.Pay.{each-from}
 use Rattle.controller.specs.Export.{AreKept, IsReached, IsWay, LeadTo}
-use Rattle.controller.specs.Reached.{AreFound, FindsAlso, IsListed, NameMembers, flag_at, members_of}
+use Rattle.controller.specs.Reached.{AreFound, ListsAlso, IsListed, NameMembers, flag_at, members_of}
 use Rattle.controller.proofs.Listed.{leads, led-one, listed-front, listed-last}
 
 true-not_false : (b : Bool) → b ≡ false → IsTrue b → ⊥
@@ -42,7 +42,7 @@ mark-is flags j i l =
     ]
 
 pub find : (flags : List Bool) (numbers : List ℕ) (j : ℕ) → AreFound flags numbers → j < length flags → flag_at flags j ≡ false →
-    FindsAlso flags numbers (set flags j true) (numbers ++ j ∷ []) (λ i. i ≡ j)
+    ListsAlso flags numbers (set flags j true) (numbers ++ j ∷ []) (λ i. i ≡ j)
 find flags numbers j h l e =
     let long : length (set flags j true) ≡ length flags = length-set flags j true in
     let marks = λ (i : ℕ). mark-is flags j i l in
@@ -72,7 +72,7 @@ find flags numbers j h l e =
         one_less (count_by not (set flags j true)) (count_by not flags) (length numbers) (length flags) (ap (λ (b : Bool). count_by not (set flags j true) + cond (not b) 1 0) (sym e) ∙ one) few more long
 
 -- nothing new is found
-pub find-none : (flags : List Bool) (numbers : List ℕ) (P : ℕ → Type 0) → AreFound flags numbers → ((j : ℕ) → P j → IsTrue (flag_at flags j)) → FindsAlso flags numbers flags numbers P
+pub find-none : (flags : List Bool) (numbers : List ℕ) (P : ℕ → Type 0) → AreFound flags numbers → ((j : ℕ) → P j → IsTrue (flag_at flags j)) → ListsAlso flags numbers flags numbers P
 find-none flags numbers P h known = record {
   found = h;
   goes_on = record { more = []; is = nothing numbers };
@@ -84,7 +84,7 @@ find-none flags numbers P h known = record {
     nothing (x ∷ xs) = ap (λ (ys : List ℕ). x ∷ ys) (nothing xs)
 
 -- first these are found, and then those
-pub find-both : (a b c : List Bool) (xs ys zs : List ℕ) (P Q R : ℕ → Type 0) → ((j : ℕ) → R j ↔ (P j ⊎ Q j)) → FindsAlso a xs b ys P → FindsAlso b ys c zs Q → FindsAlso a xs c zs R
+pub find-both : (a b c : List Bool) (xs ys zs : List ℕ) (P Q R : ℕ → Type 0) → ((j : ℕ) → R j ↔ (P j ⊎ Q j)) → ListsAlso a xs b ys P → ListsAlso b ys c zs Q → ListsAlso a xs c zs R
 find-both a b c xs ys zs P Q R both first second = record {
   found = second.found;
   goes_on = record { more = first.goes_on.more ++ second.goes_on.more; is = second.goes_on.is ∙ ap (λ (us : List ℕ). us ++ second.goes_on.more) first.goes_on.is ∙ joined xs first.goes_on.more second.goes_on.more };
@@ -130,7 +130,7 @@ long-replicate zero = refl
 long-replicate (suc count) = ap suc (long-replicate count)
 
 pub reaching-first : (branches : ℕ → List Branch) (IsFirst : ℕ → Type 0) (count : ℕ) (flags : List Bool) (none numbers : List ℕ) (P : ℕ → Type 0) → ((j : ℕ) → P j ↔ IsFirst j) →
-    FindsAlso (replicate count false) none flags numbers P → Reaching branches IsFirst count 0 flags numbers
+    ListsAlso (replicate count false) none flags numbers P → Reaching branches IsFirst count 0 flags numbers
 reaching-first branches IsFirst count flags none numbers P same h =
     let long : length (replicate count false) ≡ count = long-replicate count in
     let marked = λ (j : ℕ) (l : j < count). h.marks.marked j (subst (λ (n : ℕ). j < n) (sym long) l) in
@@ -159,7 +159,7 @@ way-on branches i (next ∷ way) j k w l = (w.0, way-on branches next way j k w.
 
 pub reaching-next : (branches : ℕ → List Branch) (IsFirst : ℕ → Type 0) (count next : ℕ) (flags after : List Bool) (numbers later : List ℕ) →
     Reaching branches IsFirst count next flags numbers → next < length numbers →
-    FindsAlso flags numbers after later (IsListed (members_of (branches (get_or numbers next 0)))) → Reaching branches IsFirst count (next + 1) after later
+    ListsAlso flags numbers after later (IsListed (members_of (branches (get_or numbers next 0)))) → Reaching branches IsFirst count (next + 1) after later
 reaching-next branches IsFirst count next flags after numbers later r l h =
     let i : ℕ = get_or numbers next 0 in
     let marked = λ (j : ℕ) (l : j < count). h.marks.marked j (subst (λ (n : ℕ). j < n) (sym r.long) l) in

@@ -5,6 +5,7 @@ use Rattle.scaled_num.specs.Sums.{below}
 use Rattle.alpha_set.specs.Nodes.{NodeData}
 use Rattle.controller.specs.Export.{AreKept, IsAtCornerOrStart, IsAtStart, new_number, nodes_kept, points_kept, renumbered_starts, shares_of, steps_of}
 use Rattle.game_model.specs.Branches.{Branch}
+use Rattle.controller.specs.declared.found.Found.{Found}
 use Rattle.point_set.specs.Points.{PointData}
 
 -- the flag of a member
@@ -34,10 +35,22 @@ pub record MarksAlso (before after : List Bool) (IsMarked : ℕ → Type 0) : Ty
   pub marked : (j : ℕ) → j < length before → IsTrue (flag_at after j) ↔ (IsTrue (flag_at before j) ⊎ IsMarked j)
 
 -- what is marked further, and where it is listed
-pub record FindsAlso (before : List Bool) (known : List ℕ) (after : List Bool) (later : List ℕ) (IsMarked : ℕ → Type 0) : Type 0 where
+pub record ListsAlso (before : List Bool) (known : List ℕ) (after : List Bool) (later : List ℕ)
+    (IsMarked : ℕ → Type 0) : Type 0 where
   pub found : AreFound after later
   pub goes_on : GoesOn known later
   pub marks : MarksAlso before after IsMarked
+
+-- what is found is marked and listed; what is found further
+abbrev pub IsFound : Found → Type 0
+IsFound found = AreFound found.flags.items found.numbers.items
+
+abbrev pub FindsAlso : Found → Found → (ℕ → Type 0) → Type 0
+FindsAlso before after = ListsAlso before.flags.items before.numbers.items after.flags.items after.numbers.items
+
+-- the members of starts
+abbrev pub starts_of : List (ℕ × ℤ) → List ℕ
+starts_of starts = map (λ start. start.0) starts
 
 -- the members that branches name
 abbrev pub members_of : List Branch → List ℕ
@@ -51,16 +64,25 @@ NameMembers count branches = (i : ℕ) → i < count → AllByRecursion (λ b. b
 abbrev pub new_numbers : List Bool → List ℕ
 new_numbers flags = map (new_number (flag_at flags)) (below (length flags))
 
--- these are the nodes that starts reach by steps, and the starts, under new numbers
-pub record AreExportedNodes (nodes : List NodeData) (starts : List (ℕ × ℤ)) (new : List NodeData) (new_starts : List (ℕ × ℤ)) : Type 0 where
+-- just these nodes are reached from starts by steps, and just these points from corners and starts by shares
+abbrev pub AreReachedNodes : List NodeData → List (ℕ × ℤ) → (ℕ → Bool) → Type 0
+AreReachedNodes nodes starts kept = AreKept (steps_of nodes) (IsAtStart starts) (length nodes) kept
+
+abbrev pub AreReachedPoints : ℕ → List PointData → List (ℕ × ℤ) → (ℕ → Bool) → Type 0
+AreReachedPoints states points starts kept = AreKept (shares_of points) (IsAtCornerOrStart states starts) (length points) kept
+
+-- the reached nodes, and the starts, under new numbers
+pub record AreExportedNodes (nodes : List NodeData) (starts : List (ℕ × ℤ)) (new : List NodeData)
+    (new_starts : List (ℕ × ℤ)) : Type 0 where
   pub kept : ℕ → Bool
-  pub reached : AreKept (steps_of nodes) (IsAtStart starts) (length nodes) kept
+  pub reached : AreReachedNodes nodes starts kept
   pub members : new ≡ nodes_kept kept nodes
   pub starts_too : new_starts ≡ renumbered_starts kept starts
 
--- these are the points that corners and starts reach by shares, and the starts, under new numbers
-pub record AreExportedPoints (states : ℕ) (points : List PointData) (starts : List (ℕ × ℤ)) (new : List PointData) (new_starts : List (ℕ × ℤ)) : Type 0 where
+-- the reached points, and the starts, under new numbers
+pub record AreExportedPoints (states : ℕ) (points : List PointData) (starts : List (ℕ × ℤ)) (new : List PointData)
+    (new_starts : List (ℕ × ℤ)) : Type 0 where
   pub kept : ℕ → Bool
-  pub reached : AreKept (shares_of points) (IsAtCornerOrStart states starts) (length points) kept
+  pub reached : AreReachedPoints states points starts kept
   pub members : new ≡ points_kept kept points
   pub starts_too : new_starts ≡ renumbered_starts kept starts

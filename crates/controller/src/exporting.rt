@@ -71,7 +71,8 @@ fn export_nodes(
 ) -> Result<(NodeSet, Vec<(u32, i128)>), AllocError>
     requires nodes { AreNodes game.now nodes.now.members }
     requires starts { AllByRecursion (λ start. start.0 < length nodes.now.members) starts.now }
-    ensures { IfOk result (λ kept. AreExportedNodes nodes.now.members starts.now kept.0.members kept.1.items) }
+    ensures { IfOk result (λ kept.
+        AreExportedNodes nodes.now.members starts.now kept.0.members kept.1.items) }
 {
     let flags = reached_nodes(alloc, nodes, starts)?;
     let numbering = Numbering::of(alloc, flags)?;
@@ -90,7 +91,8 @@ fn export_points(
     requires points { ArePoints game.now points.now.members }
     requires corners { game.now.shape.states ≤ length points.now.members }
     requires starts { AllByRecursion (λ start. start.0 < length points.now.members) starts.now }
-    ensures { IfOk result (λ kept. AreExportedPoints game.now.shape.states points.now.members starts.now kept.0.members kept.1.items) }
+    ensures { IfOk result (λ kept.
+        AreExportedPoints game.now.shape.states points.now.members starts.now kept.0.members kept.1.items) }
 {
     let flags = reached_points(alloc, game, points, starts)?;
     let numbering = Numbering::of(alloc, flags)?;

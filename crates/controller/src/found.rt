@@ -1,6 +1,6 @@
 //! Members of a set that are found, one after the other.
 
-ghost use Rattle.controller.specs.Reached.{AreFound, FindsAlso, IsListed, members_of};
+ghost use Rattle.controller.specs.Reached.{FindsAlso, IsFound, IsListed, members_of, starts_of};
 ghost use Rattle.game_model.specs.Branches.{branch_of};
 ghost use Rattle.std.specs.List.{AllByRecursion};
 ghost use Rattle.std.specs.Prelude.{IfOk, OnOk, false, length, map, replicate, ◌<◌, ◌≡◌, ◌≤◌};
@@ -26,7 +26,7 @@ impl Found {
     /// Where no memory is to be had.
     pub fn none(alloc: Global, count: u32) -> Result<Found, AllocError>
         ensures flags { IfOk result (λ found. found.flags.items ≡ replicate count false) }
-        ensures found { IfOk result (λ found. AreFound found.flags.items found.numbers.items) }
+        ensures found { IfOk result IsFound }
     {
         Ok(Found {
             flags: vec![in alloc; false; count as usize]?,
@@ -36,9 +36,9 @@ impl Found {
 
     /// Finds a member.
     fn add(&mut self, j: u32) -> Result<(), AllocError>
-        requires found { AreFound self.old.flags.items self.old.numbers.items }
+        requires found { IsFound self.old }
         requires inside { j < length self.old.flags.items }
-        ensures { OnOk result (FindsAlso self.old.flags.items self.old.numbers.items self.new.flags.items self.new.numbers.items (λ i. i ≡ j)) }
+        ensures { OnOk result (FindsAlso self.old self.new (λ i. i ≡ j)) }
     {
         if self.flags[j as usize] {
             return Ok(());
@@ -50,9 +50,9 @@ impl Found {
 
     /// Finds the first members, so many of them.
     pub fn add_first(&mut self, count: u32) -> Result<(), AllocError>
-        requires found { AreFound self.old.flags.items self.old.numbers.items }
+        requires found { IsFound self.old }
         requires inside { count ≤ length self.old.flags.items }
-        ensures { OnOk result (FindsAlso self.old.flags.items self.old.numbers.items self.new.flags.items self.new.numbers.items (λ i. i < count)) }
+        ensures { OnOk result (FindsAlso self.old self.new (λ i. i < count)) }
     {
         for j in 0..count {
             self.add(j)?;
@@ -62,9 +62,9 @@ impl Found {
 
     /// Finds the members at which starts are.
     pub fn add_starts(&mut self, starts: &[(u32, i128)]) -> Result<(), AllocError>
-        requires found { AreFound self.old.flags.items self.old.numbers.items }
+        requires found { IsFound self.old }
         requires inside { AllByRecursion (λ start. start.0 < length self.old.flags.items) starts.now }
-        ensures { OnOk result (FindsAlso self.old.flags.items self.old.numbers.items self.new.flags.items self.new.numbers.items (IsListed (map (λ start. start.0) starts.now))) }
+        ensures { OnOk result (FindsAlso self.old self.new (IsListed (starts_of starts.now))) }
     {
         for start in starts {
             self.add(start.0)?;
@@ -74,9 +74,9 @@ impl Found {
 
     /// Finds the members that branches name.
     pub fn add_named(&mut self, branches: &[Branch]) -> Result<(), AllocError>
-        requires found { AreFound self.old.flags.items self.old.numbers.items }
+        requires found { IsFound self.old }
         requires inside { AllByRecursion (λ b. b.k < length self.old.flags.items) branches.now }
-        ensures { OnOk result (FindsAlso self.old.flags.items self.old.numbers.items self.new.flags.items self.new.numbers.items (IsListed (members_of (map branch_of branches.now)))) }
+        ensures { OnOk result (FindsAlso self.old self.new (IsListed (members_of (map branch_of branches.now)))) }
     {
         for branch in branches {
             self.add(branch.k)?;

@@ -122,7 +122,8 @@ fn renumber(
     numbering: &Numbering,
 ) -> Result<Vec<Branch>, AllocError>
     requires { AllByRecursion (λ b. b.member < length numbering.now) (map branch_of branches.now) }
-    ensures { IfOk result (λ new. map branch_of new.items ≡ renumbered (flag_at numbering.now) (map branch_of branches.now)) }
+    ensures { IfOk result (λ new.
+        map branch_of new.items ≡ renumbered (flag_at numbering.now) (map branch_of branches.now)) }
 {
     let mut new = Vec::with_capacity(alloc, branches.len())?;
     for branch in branches {

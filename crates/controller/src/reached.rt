@@ -1,7 +1,7 @@
 //! The nodes that start nodes reach by steps, and the points that corners and start points reach by shares.
 
-ghost use Rattle.controller.specs.Export.{AreKept, IsAtCornerOrStart, IsAtStart, shares_of, steps_of};
-ghost use Rattle.controller.specs.Reached.{NameMembers, flag_at};
+ghost use Rattle.controller.specs.Export.{shares_of, steps_of};
+ghost use Rattle.controller.specs.Reached.{AreReachedNodes, AreReachedPoints, NameMembers, flag_at};
 ghost use Rattle.std.specs.List.{AllByRecursion};
 ghost use Rattle.std.specs.Prelude.{IfOk, length, ◌<◌, ◌≡◌, ◌≤◌};
 
@@ -24,7 +24,7 @@ pub fn reached_nodes(
     requires named { NameMembers (length nodes.now.members) (steps_of nodes.now.members) }
     requires starts { AllByRecursion (λ start. start.0 < length nodes.now.members) starts.now }
     ensures long { IfOk result (λ flags. length flags.items ≡ length nodes.now.members) }
-    ensures kept { IfOk result (λ flags. AreKept (steps_of nodes.now.members) (IsAtStart starts.now) (length nodes.now.members) (flag_at flags.items)) }
+    ensures kept { IfOk result (λ flags. AreReachedNodes nodes.now.members starts.now (flag_at flags.items)) }
 {
     let mut found = Found::none(alloc, nodes.len())?;
     found.add_starts(starts)?;
@@ -52,7 +52,7 @@ pub fn reached_points(
     requires corners { game.now.shape.states ≤ length points.now.members }
     requires starts { AllByRecursion (λ start. start.0 < length points.now.members) starts.now }
     ensures long { IfOk result (λ flags. length flags.items ≡ length points.now.members) }
-    ensures kept { IfOk result (λ flags. AreKept (shares_of points.now.members) (IsAtCornerOrStart game.now.shape.states starts.now) (length points.now.members) (flag_at flags.items)) }
+    ensures kept { IfOk result (λ flags. AreReachedPoints game.now.shape.states points.now.members starts.now (flag_at flags.items)) }
 {
     let mut found = Found::none(alloc, points.len())?;
     found.add_first(game.states())?;

@@ -9,7 +9,7 @@ use Rattle.scaled_num.proofs.Each.{each-of-map}
 use Rattle.alpha_set.specs.Members.{node_data}
 use Rattle.alpha_set.specs.declared.nodes.Node.{Node as NodeParts}
 use Rattle.controller.specs.Export.{IsAtStart, steps_of}
-use Rattle.controller.specs.Reached.{FindsAlso, IsListed, members_of}
+use Rattle.controller.specs.Reached.{ListsAlso, IsListed, members_of}
 use Rattle.controller.proofs.Listed.{start-one, starts-at}
 use Rattle.controller.proofs.Reaching.{reaching-end, reaching-first, reaching-inside, reaching-next}
 use Rattle.controller.proofs.reached.reached_nodes.Goals as goal
@@ -22,7 +22,7 @@ loop-next-init c =
     let flags : c.in_ok-found.found.flags.items ≡ replicate (length c.args.nodes.now.members) false = c.in_ok-found.ensures.flags ∙ ap (λ (n : ℕ). replicate n false) c.len.ensures.count in
     reaching-first (steps_of c.args.nodes.now.members) (IsAtStart c.args.starts.now) (length c.args.nodes.now.members) c.add_starts.new.self.flags.items c.in_ok-found.found.numbers.items c.add_starts.new.self.numbers.items
     (IsListed (numbers_of c.args.starts.now)) (starts-at c.args.starts.now)
-    (subst (λ (fs : List Bool). FindsAlso fs c.in_ok-found.found.numbers.items c.add_starts.new.self.flags.items c.add_starts.new.self.numbers.items (IsListed (numbers_of c.args.starts.now))) flags c.in_ok-add_starts.ensures)
+    (subst (λ (fs : List Bool). ListsAlso fs c.in_ok-found.found.numbers.items c.add_starts.new.self.flags.items c.add_starts.new.self.numbers.items (IsListed (numbers_of c.args.starts.now))) flags c.in_ok-add_starts.ensures)
 
 -- the branches at hand are those of the member that is listed next
 branches : (members : List NodeData) (numbers : List ℕ) (next k : ℕ) (now : List BranchParts) (one : NodeParts) → now ≡ one.next.items → node_data one ≡ get_or members k no_node → k ≡ get_or numbers next k → next < length numbers →
@@ -48,7 +48,7 @@ loop-next-preserved c =
     let same = branches c.args.nodes.now.members c.loop-next.found.numbers.items c.loop-next.next c.index-i.result.now c.deref.result.now c.node.result.now c.deref.ensures.value c.node.ensures c.index-i.ensures here in
     reaching-next (steps_of c.args.nodes.now.members) (IsAtStart c.args.starts.now) (length c.args.nodes.now.members) c.loop-next.next c.loop-next.found.flags.items c.add_named.new.self.flags.items c.loop-next.found.numbers.items c.add_named.new.self.numbers.items
     c.loop-next.invariant here
-    (subst (λ (bs : List Branch). FindsAlso c.loop-next.found.flags.items c.loop-next.found.numbers.items c.add_named.new.self.flags.items c.add_named.new.self.numbers.items (IsListed (members_of bs))) same c.in_ok-add_named.ensures)
+    (subst (λ (bs : List Branch). ListsAlso c.loop-next.found.flags.items c.loop-next.found.numbers.items c.add_named.new.self.flags.items c.add_named.new.self.numbers.items (IsListed (members_of bs))) same c.in_ok-add_named.ensures)
 
 pub returns-clause-kept : goal.returns-clause-kept
 returns-clause-kept c =

@@ -9,7 +9,7 @@ use Rattle.scaled_num.proofs.Each.{each-of-map}
 use Rattle.point_set.specs.Members.{point_data}
 use Rattle.point_set.specs.declared.points.Point.{Point as PointParts}
 use Rattle.controller.specs.Export.{IsAtCornerOrStart, IsAtStart, shares_of}
-use Rattle.controller.specs.Reached.{FindsAlso, IsListed, members_of}
+use Rattle.controller.specs.Reached.{ListsAlso, IsListed, members_of}
 use Rattle.controller.proofs.Listed.{start-one, starts-at}
 use Rattle.controller.proofs.Reaching.{find-both, reaching-end, reaching-first, reaching-inside, reaching-next}
 use Rattle.controller.proofs.reached.reached_points.Goals as goal
@@ -26,13 +26,13 @@ either states starts j = (
 pub loop-next-init : goal.loop-next-init
 loop-next-init c =
     let flags : c.in_ok-found.found.flags.items ≡ replicate (length c.args.points.now.members) false = c.in_ok-found.ensures.flags ∙ ap (λ (n : ℕ). replicate n false) c.len.ensures.count in
-    let corners = subst (λ (n : ℕ). FindsAlso c.in_ok-found.found.flags.items c.in_ok-found.found.numbers.items c.add_first.new.self.flags.items c.add_first.new.self.numbers.items (λ (j : ℕ). j < n)) c.states.ensures c.in_ok-add_first.ensures in
+    let corners = subst (λ (n : ℕ). ListsAlso c.in_ok-found.found.flags.items c.in_ok-found.found.numbers.items c.add_first.new.self.flags.items c.add_first.new.self.numbers.items (λ (j : ℕ). j < n)) c.states.ensures c.in_ok-add_first.ensures in
     let both =
     find-both c.in_ok-found.found.flags.items c.add_first.new.self.flags.items c.add_starts.new.self.flags.items c.in_ok-found.found.numbers.items c.add_first.new.self.numbers.items c.add_starts.new.self.numbers.items
     (λ (j : ℕ). j < c.args.game.now.shape.states) (IsListed (numbers_of c.args.starts.now)) (IsAtCornerOrStart c.args.game.now.shape.states c.args.starts.now) (either c.args.game.now.shape.states c.args.starts.now) corners c.in_ok-add_starts.ensures in
     reaching-first (shares_of c.args.points.now.members) (IsAtCornerOrStart c.args.game.now.shape.states c.args.starts.now) (length c.args.points.now.members) c.add_starts.new.self.flags.items c.in_ok-found.found.numbers.items c.add_starts.new.self.numbers.items
     (IsAtCornerOrStart c.args.game.now.shape.states c.args.starts.now) (λ j. (λ f. f, λ f. f))
-    (subst (λ (fs : List Bool). FindsAlso fs c.in_ok-found.found.numbers.items c.add_starts.new.self.flags.items c.add_starts.new.self.numbers.items (IsAtCornerOrStart c.args.game.now.shape.states c.args.starts.now)) flags both)
+    (subst (λ (fs : List Bool). ListsAlso fs c.in_ok-found.found.numbers.items c.add_starts.new.self.flags.items c.add_starts.new.self.numbers.items (IsAtCornerOrStart c.args.game.now.shape.states c.args.starts.now)) flags both)
 
 -- the branches at hand are those of the member that is listed next
 branches : (members : List PointData) (numbers : List ℕ) (next k : ℕ) (now : List BranchParts) (one : PointParts) → now ≡ one.splits.items → point_data one ≡ get_or members k no_point → k ≡ get_or numbers next k → next < length numbers →
@@ -58,7 +58,7 @@ loop-next-preserved c =
     let same = branches c.args.points.now.members c.loop-next.found.numbers.items c.loop-next.next c.index-j.result.now c.deref.result.now c.point.result.now c.deref.ensures.value c.point.ensures c.index-j.ensures here in
     reaching-next (shares_of c.args.points.now.members) (IsAtCornerOrStart c.args.game.now.shape.states c.args.starts.now) (length c.args.points.now.members) c.loop-next.next c.loop-next.found.flags.items c.add_named.new.self.flags.items c.loop-next.found.numbers.items c.add_named.new.self.numbers.items
     c.loop-next.invariant here
-    (subst (λ (bs : List Branch). FindsAlso c.loop-next.found.flags.items c.loop-next.found.numbers.items c.add_named.new.self.flags.items c.add_named.new.self.numbers.items (IsListed (members_of bs))) same c.in_ok-add_named.ensures)
+    (subst (λ (bs : List Branch). ListsAlso c.loop-next.found.flags.items c.loop-next.found.numbers.items c.add_named.new.self.flags.items c.add_named.new.self.numbers.items (IsListed (members_of bs))) same c.in_ok-add_named.ensures)
 
 pub returns-clause-kept : goal.returns-clause-kept
 returns-clause-kept c =

@@ -3,7 +3,7 @@ use Rattle.std.specs.Prelude.{pos}
 use Rattle.std.proofs.lemmas.List.{map-append, take_all}
 use Rattle.game_model.specs.Branches.{Branch, branch_of}
 use Rattle.game_model.specs.declared.branches.Branch.{Branch as BranchParts}
-use Rattle.controller.specs.Reached.{FindsAlso, IsListed, members_of}
+use Rattle.controller.specs.Reached.{ListsAlso, IsListed, members_of}
 use Rattle.controller.proofs.Listed.{first-more, listed-more}
 use Rattle.controller.proofs.Reaching.{find-both}
 use Rattle.controller.proofs.found.Found.add_named.Goals as goal
@@ -25,5 +25,5 @@ loop-branch-preserved c =
 
 pub returns : goal.returns
 returns c =
-    subst (λ (branches : List BranchParts). FindsAlso c.args.self.now.flags.items c.args.self.now.numbers.items c.loop-branch.self.flags.items c.loop-branch.self.numbers.items (IsListed (members_of (map branch_of branches))))
+    subst (λ (branches : List BranchParts). ListsAlso c.args.self.now.flags.items c.args.self.now.numbers.items c.loop-branch.self.flags.items c.loop-branch.self.numbers.items (IsListed (members_of (map branch_of branches))))
     (take_all c.loop-branch.branch-index c.args.branches.now c.loop-branch-test.false) c.loop-branch.invariant

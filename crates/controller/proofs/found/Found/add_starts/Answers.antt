@@ -1,7 +1,7 @@
 use Rattle.std.proofs.Common.{◌≡◌, ℕ, ◌+◌, List, map, take, get_or, subst}
 use Rattle.std.specs.Prelude.{ℤ, pos}
 use Rattle.std.proofs.lemmas.List.{take_all}
-use Rattle.controller.specs.Reached.{FindsAlso, IsListed}
+use Rattle.controller.specs.Reached.{ListsAlso, IsListed}
 use Rattle.controller.proofs.Listed.{first-more, listed-more}
 use Rattle.controller.proofs.Reaching.{find-both}
 use Rattle.controller.proofs.found.Found.add_starts.Goals as goal
@@ -20,5 +20,5 @@ loop-start-preserved c =
 
 pub returns : goal.returns
 returns c =
-    subst (λ (starts : List (ℕ × ℤ)). FindsAlso c.args.self.now.flags.items c.args.self.now.numbers.items c.loop-start.self.flags.items c.loop-start.self.numbers.items (IsListed (map number starts)))
+    subst (λ (starts : List (ℕ × ℤ)). ListsAlso c.args.self.now.flags.items c.args.self.now.numbers.items c.loop-start.self.flags.items c.loop-start.self.numbers.items (IsListed (map number starts)))
     (take_all c.loop-start.start-index c.args.starts.now c.loop-start-test.false) c.loop-start.invariant
