@@ -78,10 +78,10 @@ points-hold g k r =
     each-append (Holds g k) (corner_places g j) (split_places g j ++ value_places g j) (corner-holds g k r j lj)
     (each-append (Holds g k) (split_places g j) (value_places g j) (splits-hold g k r j lj) (of-map _ (λ a. ValueAt j a) g.shape.own_actions (λ a la. r.value j a lj la))))
 
+pub hold-everywhere : (g : GameData) (k : CertificateData) → Rules g k → AllByRecursion (Holds g k) (places g k)
+hold-everywhere g k r =
+    each-append (Holds g k) (node_places g k) _ (nodes-hold g k r)
+    (each-append (Holds g k) (flat_map (point_places g) (below (length k.points))) _ (points-hold g k r) (r.start, (r.bound, (r.outcome, tt))))
+
 pub stands : (g : GameData) (k : CertificateData) → CertificateFits g k → Rules g k → CertificateStands g k
-stands g k fits r =
-    record {
-      fits = fits;
-      holds = each-append (Holds g k) (node_places g k) _ (nodes-hold g k r)
-          (each-append (Holds g k) (flat_map (point_places g) (below (length k.points))) _ (points-hold g k r) (r.start, (r.bound, (r.outcome, tt))));
-    }
+stands g k fits r = record { fits = fits; holds = hold-everywhere g k r }
