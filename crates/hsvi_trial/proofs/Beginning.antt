@@ -35,7 +35,7 @@ use Rattle.hsvi_trial.specs.declared.visits.Visit.{Visit}
 use Rattle.hsvi_trial.proofs.Places.{begins-first}
 use Rattle.hsvi_trial.proofs.Standing.{nodes-serve, points-serve}
 
-sure-or-not : (g : GameData) → IsGame g → IsSure g.first ⊎ (IsSure g.first → ⊥)
+pub sure-or-not : (g : GameData) → IsGame g → IsSure g.first ⊎ (IsSure g.first → ⊥)
 sure-or-not g game = by_lt_z (pos 1) (sum_of g.first)
     (λ more. inr (total-more g.first more))
     (λ upto. let low = game.first.sums.0 in inl (total-one g.first (each-from (IsWithin (pos 0) (pos (2 ^ 20))) (λ x. pos 0 ≤ℤ x) g.first (λ x w. w.0) game.first.each) (omega (arith, ints))))

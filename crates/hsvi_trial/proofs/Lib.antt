@@ -36,3 +36,7 @@ pub mod OneBeginnings
 pub mod OneRuns
 pub mod ShortRuns
 pub mod Fronts
+pub mod ToothItems
+pub mod FewMembers
+pub mod StartFits
+pub mod SolvedStands

@@ -143,7 +143,7 @@ points-with g points point old fits stands = record {
 long-corner : (states s : ℕ) → length (corner_of states s) ≡ states
 long-corner states s = length-set (replicate states (pos 0)) s (pos 1) ∙ length-replicate states (pos 0)
 
-some-corner : (g : GameData) (sets : Sets) → IsGame g → AreStanding g sets → (s : ℕ) → s < g.shape.states → s < length sets.points
+pub some-corner : (g : GameData) (sets : Sets) → IsGame g → AreStanding g sets → (s : ℕ) → s < g.shape.states → s < length sets.points
 some-corner g sets game old s l = elim (either s (length sets.points)) [ inl k ↦ k | inr k ↦ absurd (none k) ]
   where
     either : (n m : ℕ) → (n < m) ⊎ (m ≤ n)

@@ -42,7 +42,7 @@ numbers-head x y xs ys e = ap (λ (l : List ℕ). slice_index_or l 0 x) e
 weights-head : (x y : ℤ) (xs ys : List ℤ) → x ∷ xs ≡ y ∷ ys → x ≡ y
 weights-head x y xs ys e = ap (λ (l : List ℤ). slice_index_or l 0 x) e
 
-scaled : (f : ℕ → ℤ) (e : ℤ) (xs ys : List (ℕ × ℤ)) → map (λ item. item.0) xs ≡ map (λ item. item.0) ys → map (λ item. item.1) ys ≡ map (λ x. e *ℤ x) (map (λ item. item.1) xs) →
+pub scaled : (f : ℕ → ℤ) (e : ℤ) (xs ys : List (ℕ × ℤ)) → map (λ item. item.0) xs ≡ map (λ item. item.0) ys → map (λ item. item.1) ys ≡ map (λ x. e *ℤ x) (map (λ item. item.1) xs) →
     e *ℤ total (λ item. item.1 *ℤ f item.0) xs ≡ total (λ item. item.1 *ℤ f item.0) ys
 scaled f e [] [] n w = nothing e
   where
