@@ -67,3 +67,7 @@ pub record EndsWith (state : SearchState) (outcome : Ending) : Type 0 where
   pub run : IsRunSoFar state.task seeds state.sets state.journal state.cut
   pub ended : HasEnded state.task seeds state.sets state.journal state.cut run
   pub outcome_is : IsOutcome state.task state.sets state.cut outcome
+
+-- the run has no further visit
+abbrev pub IsFinished : SearchState → Type 0
+IsFinished state = (outcome : Ending) × EndsWith state outcome

@@ -50,9 +50,12 @@ impl<'v> Model for View<'v> {
 
     ghost Value = { ViewData };
 
-    ghost view = { λ v. view_data v.game.now v.nodes.now v.points.now v.belief.now v.informed.now v.own.now v.threshold };
+    ghost view = { λ v.
+        view_data v.game.now v.nodes.now v.points.now v.belief.now v.informed.now v.own.now v.threshold };
 
-    ghost invariant = { λ v. IsView v.game.now (view_data v.game.now v.nodes.now v.points.now v.belief.now v.informed.now v.own.now v.threshold).view };
+    ghost invariant = { λ v.
+        IsView v.game.now
+        (view_data v.game.now v.nodes.now v.points.now v.belief.now v.informed.now v.own.now v.threshold).view };
 }
 
 /// An own action and an observation, and the excess of the mass that follows them.
@@ -187,8 +190,8 @@ fn excess_of(best: Option<Best>) -> i128
     }
 }
 
-/// Where a visit of a belief at a depth goes on, with the sets after what was kept: where it may go down, with a discount
-/// and above the greatest depth, by the first greatest positive excess; and nowhere else. It takes no memory.
+/// Where a visit of a belief at a depth goes on, with the sets after what was kept: where it may go down, with a
+/// discount and above the greatest depth, by the first greatest positive excess; and nowhere else. It takes no memory.
 pub fn look_on(
     game: &Game,
     gap: &Fraction,
@@ -206,7 +209,15 @@ pub fn look_on(
     requires belief { BeliefFits game.now belief.now }
     requires informed { MixesFit game.now informed.now }
     requires own { IsMix game.now.shape.own_actions own.now }
-    ensures look { IsLook game.now (looks_from game.now depth down) (record { sets = record { nodes = nodes.now.members; points = points.now.members }; belief = belief.now; informed = informed.now; own = own.now; threshold = pos (threshold game.now (fraction_data gap.now) (suc depth)) }) result.chosen result.next }
+    ensures look { IsLook game.now (looks_from game.now depth down)
+        (record {
+          sets = record { nodes = nodes.now.members; points = points.now.members };
+          belief = belief.now;
+          informed = informed.now;
+          own = own.now;
+          threshold = pos (threshold game.now (fraction_data gap.now) (suc depth));
+        })
+        result.chosen result.next }
     ensures fits { IfSome result.next (λ next. BeliefFits game.now next) }
 {
     if !looks_from(game, depth, down) {

@@ -32,8 +32,14 @@ pub fn end_of(
     requires start { HasStart game.now (record { nodes = nodes.now.members; points = points.now.members }) }
     requires gap { IsGap (fraction_data gap.now) }
     requires trial { trial ≤ trials }
-    ensures ended { IfSome result (λ outcome. IsEnd (record { game = game.now; trials = trials; gap = fraction_data gap.now }) (record { nodes = nodes.now.members; points = points.now.members }) cut begins trial (ending_of outcome)) }
-    ensures onward { IsNone result → IsOnward (record { game = game.now; trials = trials; gap = fraction_data gap.now }) (record { nodes = nodes.now.members; points = points.now.members }) cut begins trial }
+    ensures ended { IfSome result (λ outcome.
+        IsEnd (record { game = game.now; trials = trials; gap = fraction_data gap.now })
+        (record { nodes = nodes.now.members; points = points.now.members })
+        cut begins trial (ending_of outcome)) }
+    ensures onward { IsNone result →
+        IsOnward (record { game = game.now; trials = trials; gap = fraction_data gap.now })
+        (record { nodes = nodes.now.members; points = points.now.members })
+        cut begins trial }
 {
     if cut {
         return Some(outcome(are_closed(game, nodes, points, gap), cut));
@@ -52,7 +58,9 @@ pub fn end_of(
 
 /// The outcome of a run whose bounds are closed or not, and whose last visit was cut or not.
 pub fn outcome(closed: bool, cut: bool) -> Outcome
-    ensures { (task : Task) (sets : Sets) → (IsTrue closed → AreClosed task.game task.gap sets) → (IsFalse closed → AreOpen task.game task.gap sets) → IsOutcome task sets cut (ending_of result) }
+    ensures { (task : Task) (sets : Sets) →
+        (IsTrue closed → AreClosed task.game task.gap sets) → (IsFalse closed → AreOpen task.game task.gap sets) →
+        IsOutcome task sets cut (ending_of result) }
 {
     if closed {
         Outcome::Closed

@@ -104,7 +104,8 @@ fn product(belief: &[i128], vector: &[i128]) -> i128
 pub fn keep_point(points: &mut PointSet, belief: &Belief, point: Point, node_refused: bool) -> Kept
     requires measured { AreMeasured points.old.members belief.now }
     requires spare { 1 ≤ points.old.spare }
-    ensures kept { KeepsPoint (IsTrue node_refused) points.old.members points.new.members belief.now (point_data point) result.number }
+    ensures kept { KeepsPoint (IsTrue node_refused) points.old.members points.new.members
+        belief.now (point_data point) result.number }
     ensures refused { IsTrue result.refused ↔ IsPointRefused points.old.members belief.now (point_data point) }
 {
     if !is_point_due(points, belief, &point) {

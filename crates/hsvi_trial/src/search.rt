@@ -2,17 +2,20 @@
 
 ghost use Rattle.controller.specs.Certificates.{IsGap};
 ghost use Rattle.controller.specs.Data.{ending_of, fraction_data};
-ghost use Rattle.hsvi_trial.specs.Data.{EndsWith, IsSearch};
+ghost use Rattle.hsvi_trial.specs.Data.{EndsWith, IsFinished, IsSearch, solved_data, start_data};
 ghost use Rattle.hsvi_trial.specs.Held.{HasRooms};
-ghost use Rattle.hsvi_trial.specs.Laws.{most_visits};
-ghost use Rattle.hsvi_trial.specs.Run.{most_trials};
-ghost use Rattle.hsvi_trial.specs.Sets.{AreSeedSets};
+ghost use Rattle.hsvi_trial.specs.Laws.{IsRunFront, most_visits};
+ghost use Rattle.hsvi_trial.specs.Run.{IsSolveRun, most_trials};
+ghost use Rattle.hsvi_trial.specs.Sets.{AreSeedSets, AreStanding};
+ghost use Rattle.hsvi_trial.specs.Starts.{IsStart};
 ghost use Rattle.hsvi_trial.specs.declared.visits.Visit.{Visit as VisitParts};
 ghost use Rattle.std.specs.Prelude.{IfOk, OnErr, OnOk, [], false, length, ◌*◌, ◌++◌, ◌∷◌, ◌≡◌, ◌≤◌};
 
 use crate::choices::look_on;
 use crate::courses::Course;
-use crate::ends::end_of;
+use crate::ends::{end_of, outcome};
+use crate::solving::Solved;
+use crate::starts::{StartOf, are_closed, start_of};
 use crate::visiting::{keep, make};
 use crate::visits::Visit;
 use alpha_set::{MOST_NODES, NodeSet};
@@ -59,7 +62,9 @@ impl<'g> Model for Search<'g> {
 
     ghost view = { λ s. search_state s.game.now s.trials (fraction_data s.gap) s.nodes s.points s.journal.items s.cut };
 
-    ghost invariant = { λ s. IsHeld (search_state s.game.now s.trials (fraction_data s.gap) s.nodes s.points s.journal.items s.cut) s.course s.solver };
+    ghost invariant = { λ s.
+        IsHeld (search_state s.game.now s.trials (fraction_data s.gap) s.nodes s.points s.journal.items s.cut)
+        s.course s.solver };
 }
 
 impl<'g> Search<'g> {
@@ -76,7 +81,8 @@ impl<'g> Search<'g> {
     ) -> Result<Search<'g>, AllocError>
         requires trials { trials ≤ most_trials }
         requires gap { IsGap (fraction_data gap.now) }
-        ensures task { IfOk result (λ search. search.task ≡ record { game = game.now; trials = trials; gap = fraction_data gap.now }) }
+        ensures task { IfOk result (λ search.
+            search.task ≡ record { game = game.now; trials = trials; gap = fraction_data gap.now }) }
         ensures seeds { IfOk result (λ search. AreSeedSets game.now search.sets) }
         ensures none { IfOk result (λ search. search.journal ≡ []) }
         ensures uncut { IfOk result (λ search. search.cut ≡ false) }
@@ -106,7 +112,9 @@ impl<'g> Search<'g> {
         ensures count { result ≡ length self.now.journal }
         ensures few { result ≤ self.now.task.trials * most_visits }
         ensures kept { IsSearch self.now }
+        ensures front { IsRunFront self.now.task self.now.sets self.now.journal }
     {
+        law_game(self.game);
         self.journal.len() as u32
     }
 
@@ -117,8 +125,10 @@ impl<'g> Search<'g> {
     /// Where no memory is to be had. Sets and journal are then as before, and a later step makes the same visit.
     pub fn step(&mut self) -> Result<Progress, AllocError>
         ensures task { self.new.task ≡ self.old.task }
-        ensures visited { result ≡ Ok Progress.Visited → (visit : VisitParts) × (self.new.journal ≡ self.old.journal ++ visit ∷ []) }
-        ensures ended { (outcome : Outcome) → result ≡ Ok (Progress.Ended outcome) → (self.new ≡ self.old) × EndsWith self.old (ending_of outcome) }
+        ensures visited { result ≡ Ok Progress.Visited →
+            (visit : VisitParts) × (self.new.journal ≡ self.old.journal ++ visit ∷ []) }
+        ensures ended { (outcome : Outcome) → result ≡ Ok (Progress.Ended outcome) →
+            (self.new ≡ self.old) × EndsWith self.old (ending_of outcome) }
         ensures unchanged { OnErr result (self.new ≡ self.old) }
     {
         law_game(self.game);
@@ -178,6 +188,40 @@ impl<'g> Search<'g> {
             chosen: look.chosen,
         });
         Ok(Progress::Visited)
+    }
+
+    /// The start of the sets of a search that has ended.
+    ///
+    /// # Errors
+    ///
+    /// Where no memory is to be had.
+    pub fn finish(&self) -> Result<StartOf, AllocError>
+        requires ended { IsFinished self.now }
+        ensures start { IfOk result (λ start. IsStart self.now.task.game self.now.sets (start_data start)) }
+    {
+        law_game(self.game);
+        start_of(self.alloc, self.game, &self.nodes, &self.points)
+    }
+
+    /// What a search that has ended found, with the start of its sets. It takes no memory.
+    pub fn take(self, start: StartOf) -> Solved
+        requires ended { IsFinished self }
+        requires start { IsStart self.task.game self.sets (start_data start) }
+        ensures run { IsSolveRun self.entry.task (solved_data result) }
+        ensures standing { AreStanding self.entry.task.game (solved_data result).sets }
+    {
+        law_game(self.game);
+        let closed = are_closed(self.game, &self.nodes, &self.points, &self.gap);
+        let outcome = outcome(closed, self.cut);
+        Solved {
+            nodes: self.nodes,
+            points: self.points,
+            start_node: start.start_node,
+            start_points: start.start_points,
+            multiple: start.multiple,
+            outcome,
+            journal: self.journal,
+        }
     }
 }
 

@@ -43,8 +43,12 @@ pub enum Upper {
 pub fn are_closed(game: &Game, nodes: &NodeSet, points: &PointSet, gap: &Fraction) -> bool
     requires start { HasStart game.now (record { nodes = nodes.now.members; points = points.now.members }) }
     requires gap { IsGap (fraction_data gap.now) }
-    ensures closed { IsTrue result → AreClosed game.now (fraction_data gap.now) (record { nodes = nodes.now.members; points = points.now.members }) }
-    ensures open { IsFalse result → AreOpen game.now (fraction_data gap.now) (record { nodes = nodes.now.members; points = points.now.members }) }
+    ensures closed { IsTrue result →
+        AreClosed game.now (fraction_data gap.now)
+        (record { nodes = nodes.now.members; points = points.now.members }) }
+    ensures open { IsFalse result →
+        AreOpen game.now (fraction_data gap.now)
+        (record { nodes = nodes.now.members; points = points.now.members }) }
 {
     law_game(game);
     let (low, _) = nodes.worth(game.first());
@@ -65,7 +69,8 @@ pub fn start_of(
     points: &PointSet,
 ) -> Result<StartOf, AllocError>
     requires { HasStart game.now (record { nodes = nodes.now.members; points = points.now.members }) }
-    ensures { IfOk result (λ start. IsStart game.now (record { nodes = nodes.now.members; points = points.now.members }) (start_data start)) }
+    ensures { IfOk result (λ start.
+        IsStart game.now (record { nodes = nodes.now.members; points = points.now.members }) (start_data start)) }
 {
     law_game(game);
     let (_, start_node) = nodes.worth(game.first());

@@ -60,13 +60,22 @@ pub fn make(
     ensures node_room { OnOk result (1 ≤ nodes.new.spare) }
     ensures point_room { OnOk result (1 ≤ points.new.spare) }
     ensures journal_room { OnOk result (vec_len journal.new < vec_capacity journal.new) }
-    ensures made { IfOk result (λ made. IsMade game.now (record { nodes = nodes.old.members; points = points.old.members }) belief.now (record { lower = lower_data made.lower; node = node_data made.node; upper = upper_data made.upper; point = point_data made.point })) }
+    ensures made { IfOk result (λ made.
+        IsMade game.now (record { nodes = nodes.old.members; points = points.old.members }) belief.now
+        (record {
+          lower = lower_data made.lower;
+          node = node_data made.node;
+          upper = upper_data made.upper;
+          point = point_data made.point;
+        })) }
     ensures lower { IfOk result (λ made. LowerFits game.now (length nodes.old.members) (lower_data made.lower)) }
     ensures upper { IfOk result (λ made. UpperFits game.now points.old.members (upper_data made.upper)) }
     ensures node_fits { IfOk result (λ made. NodeFits game.now (length nodes.old.members) (node_data made.node)) }
     ensures point_fits { IfOk result (λ made. PointFits game.now (length points.old.members) (point_data made.point)) }
-    ensures node_stays { IfOk result (λ made. (more : List NodeData) → NodeStands (numbers game.now) (nodes_of (nodes.old.members ++ more)) (node_of (node_data made.node))) }
-    ensures point_stays { IfOk result (λ made. (more : List PointData) → PointStands (numbers game.now) (points_of (points.old.members ++ more)) (point_of (point_data made.point))) }
+    ensures node_stays { IfOk result (λ made. (more : List NodeData) →
+        NodeStands (numbers game.now) (nodes_of (nodes.old.members ++ more)) (node_of (node_data made.node))) }
+    ensures point_stays { IfOk result (λ made. (more : List PointData) →
+        PointStands (numbers game.now) (points_of (points.old.members ++ more)) (point_of (point_data made.point))) }
 {
     law_game(game);
     let (lower, node) = lower_visit(alloc, solver, game, belief, nodes)?;
@@ -108,10 +117,13 @@ pub fn keep(
     requires node_room { 1 ≤ nodes.old.spare }
     requires point_room { 1 ≤ points.old.spare }
     ensures node { KeepsNode nodes.old.members nodes.new.members belief.now (node_data node) result.node }
-    ensures point { KeepsPoint (IsNodeRefused nodes.old.members belief.now (node_data node)) points.old.members points.new.members belief.now (point_data point) result.point }
+    ensures point { KeepsPoint (IsNodeRefused nodes.old.members belief.now (node_data node))
+        points.old.members points.new.members belief.now (point_data point) result.point }
     ensures nodes { NodesServe game.now nodes.new.members }
     ensures points { PointsServe game.now points.new.members }
-    ensures cut { IsTrue result.cut ↔ IsCut (record { nodes = nodes.old.members; points = points.old.members }) belief.now (node_data node) (point_data point) }
+    ensures cut { IsTrue result.cut ↔
+        IsCut (record { nodes = nodes.old.members; points = points.old.members })
+        belief.now (node_data node) (point_data point) }
 {
     law_game(game);
     let node = keep_node(game, nodes, belief, node);

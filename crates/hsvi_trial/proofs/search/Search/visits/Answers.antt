@@ -1,7 +1,8 @@
 use Rattle.std.proofs.Common.{arith, length, rules, ap, subst, sym, ◌*◌, ◌≡◌, ◌≤◌, ℕ}
 use Rattle.controller.specs.Data.{fraction_data}
 use Rattle.hsvi_trial.specs.Data.{SearchState, search_state}
-use Rattle.hsvi_trial.specs.Laws.{most_visits}
+use Rattle.hsvi_trial.specs.Laws.{IsRunFront, most_visits}
+use Rattle.hsvi_trial.proofs.Fronts.{run-front}
 use Rattle.hsvi_trial.proofs.Holding.{few-visits}
 use Rattle.hsvi_trial.proofs.Short.{runs-are-short}
 use Rattle.hsvi_trial.proofs.search.Search.visits.Goals as goal
@@ -18,3 +19,8 @@ returns-clause-few c =
     let count : c.len.result ≡ length c.self.inside.journal.items = search rules in
     let trials : c.self.inside.trials ≡ c.args.self.now.task.trials = ap (λ (s : SearchState). s.task.trials) c.self.view_is in
     subst (λ (n : ℕ). n ≤ c.args.self.now.task.trials * most_visits) (sym count) (subst (λ (t : ℕ). length c.self.inside.journal.items ≤ t * most_visits) trials few)
+
+pub returns-clause-front : goal.returns-clause-front
+returns-clause-front c =
+    subst (λ (s : SearchState). IsRunFront s.task s.sets s.journal) c.self.view_is
+    (run-front _ c.self.invariant.seeds _ _ _ c.law_game.ensures.accepted c.self.invariant.run)
