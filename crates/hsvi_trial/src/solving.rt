@@ -2,7 +2,9 @@
 
 ghost use Rattle.controller.specs.Certificates.{IsGap};
 ghost use Rattle.controller.specs.Data.{fraction_data};
-ghost use Rattle.hsvi_trial.specs.Data.{IsFinished, solved_data};
+ghost use Rattle.controller.specs.Parts.{PartsFit, PartsStand};
+ghost use Rattle.controller.specs.Starts.{MakesUpMultiple};
+ghost use Rattle.hsvi_trial.specs.Data.{IsFinished, solved_data, solved_parts};
 ghost use Rattle.hsvi_trial.specs.Run.{IsSolveRun, most_trials};
 ghost use Rattle.std.specs.Prelude.{IfOk, OnOk, ◌≡◌, ◌≤◌};
 
@@ -10,7 +12,7 @@ use crate::search::{Progress, Search};
 use crate::visits::Visit;
 use alpha_set::NodeSet;
 use controller::Outcome;
-use game_model::Game;
+use game_model::{Game, law_game};
 use point_set::PointSet;
 use scaled_num::Fraction;
 use std::alloc::{AllocError, Global};
@@ -37,7 +39,15 @@ pub fn solve(alloc: Global, game: &Game, trials: u32, gap: &Fraction) -> Result<
     requires gap { IsGap (fraction_data gap.now) }
     ensures run { IfOk result (λ solved.
         IsSolveRun (record { game = game.now; trials = trials; gap = fraction_data gap.now }) (solved_data solved)) }
+    ensures fit { IfOk result (λ solved.
+        PartsFit game.now (solved_parts (fraction_data gap.now) (solved_data solved))) }
+    ensures start { IfOk result (λ solved.
+        MakesUpMultiple solved.points.members solved.start_points.items solved.multiple game.now.first
+            game.now.shape.states) }
+    ensures stand { IfOk result (λ solved.
+        PartsStand game.now (solved_parts (fraction_data gap.now) (solved_data solved))) }
 {
+    law_game(game);
     let mut search = Search::new(alloc, game, trials, gap)?;
     make_visits(&mut search)?;
     let start = search.finish()?;
