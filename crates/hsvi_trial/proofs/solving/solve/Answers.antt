@@ -6,7 +6,7 @@ use Rattle.hsvi_trial.specs.Sets.{AreStanding}
 use Rattle.hsvi_trial.proofs.SolvedStands.{solved-fit, solved-stand, solved-start}
 use Rattle.hsvi_trial.proofs.solving.solve.Goals as goal
 
-the-task : goal.After-take → Task
+abbrev the-task : goal.After-take → Task
 the-task c = record { game = c.args.game.now; trials = c.args.trials; gap = fraction_data c.args.gap.now }
 
 within : (c : goal.After-take) → IsWithinLimits (the-task c)
