@@ -1,5 +1,5 @@
 -- Branches and starts under new numbers.
-use Rattle.std.proofs.Common.{◌≡◌, ℕ, suc, ◌<◌, ◌≤◌, Bool, List, [], ◌∷◌, length, map, refl, ap, sym, subst, ◌∙◌, inl, inr, ◌==◌, ◌&&◌}
+use Rattle.std.proofs.Common.{◌≡◌, ℕ, ◌<◌, ◌≤◌, Bool, List, [], ◌∷◌, length, map, ap, sym, subst, ◌∙◌, inl, inr, ◌==◌, ◌&&◌}
 use Rattle.std.specs.Prelude.{ℤ, pos, IsTrue, sum_by, unsigned_abs, ◌⊎◌, ◌*ℤ◌}
 use Rattle.std.specs.List.{AllByRecursion}
 use Rattle.scaled_num.specs.Sums.{total}
@@ -14,6 +14,9 @@ use Rattle.controller.specs.Export.{new_number, renumbered, renumbered_starts}
 use Rattle.controller.specs.Starts.{AreStarts, IsStart, weighted, weights_sum}
 use Rattle.controller.proofs.Members.{each-filter}
 use Rattle.controller.proofs.Renumbering.{number-rises}
+use Rattle.controller.proofs.StartSums.{each-two}
+use Rattle.std.proofs.lemmas.List.{length-map}
+use Rattle.std.proofs.lemmas.Simd.{map-map}
 
 -- a branch under new numbers
 abbrev pub renumbered_one : (ℕ → Bool) → Branch → Branch
@@ -41,10 +44,6 @@ rising-too : (kept : ℕ → Bool) (count : ℕ) (branches : List Branch) → Na
 rising-too kept count [] k h = tt
 rising-too kept count (b ∷ []) k h = tt
 rising-too kept count (b ∷ d ∷ rest) k h = (before-too kept b d k.0.1 h.0, rising-too kept count (d ∷ rest) k.1 h.1)
-
-each-two : {X : Type 0} (P Q R : X → Type 0) (xs : List X) → ((x : X) → P x → Q x → R x) → AllByRecursion P xs → AllByRecursion Q xs → AllByRecursion R xs
-each-two P Q R [] f p q = tt
-each-two P Q R (x ∷ xs) f p q = (f x p.0 q.0, each-two P Q R xs f p.1 q.1)
 
 pub branches-too : (g : Numbers) (kept : ℕ → Bool) (count : ℕ) (most : ℤ) (branches : List Branch) → NameKept kept count branches → AreBranches g count most branches →
     AreBranches g (new_number kept count) most (renumbered kept branches)
@@ -110,12 +109,10 @@ starts-rise kept count (x ∷ []) k h = tt
 starts-rise kept count (x ∷ y ∷ rest) k h = (number-rises kept x.0 y.0 h.0 k.0.1, starts-rise kept count (y ∷ rest) k.1 h.1)
 
 same-weights : (kept : ℕ → Bool) (starts : List (ℕ × ℤ)) → map (λ (start : ℕ × ℤ). start.1) (renumbered_starts kept starts) ≡ map (λ (start : ℕ × ℤ). start.1) starts
-same-weights kept [] = refl
-same-weights kept (x ∷ xs) = ap (λ (ys : List ℤ). x.1 ∷ ys) (same-weights kept xs)
+same-weights kept starts = map-map (λ (start : ℕ × ℤ). start.1) (λ (start : ℕ × ℤ). (new_number kept start.0, start.1)) starts
 
 pub starts-long : (kept : ℕ → Bool) (starts : List (ℕ × ℤ)) → length (renumbered_starts kept starts) ≡ length starts
-starts-long kept [] = refl
-starts-long kept (x ∷ xs) = ap suc (starts-long kept xs)
+starts-long kept starts = length-map starts (λ (start : ℕ × ℤ). (new_number kept start.0, start.1))
 
 pub starts-too : (kept : ℕ → Bool) (count : ℕ) (most : ℤ) (starts : List (ℕ × ℤ)) → StartKept kept count starts → AreStarts count most starts → AreStarts (new_number kept count) most (renumbered_starts kept starts)
 starts-too kept count most starts k h = record {

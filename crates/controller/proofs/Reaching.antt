@@ -1,7 +1,8 @@
 -- Members that are found one after the other, and in the end all that are reached.
 use Rattle.std.proofs.Common.{◌≡◌, ℕ, zero, suc, ◌+◌, ◌<◌, ◌≤◌, Bool, true, false, cond, List, [], ◌∷◌, ◌++◌, length, get_or, set, refl, ap, arith, sym, subst, ◌∙◌, inl, inr}
 use Rattle.std.specs.Prelude.{IsTrue, count_by, not, replicate, ◌↔◌, ◌⊎◌}
-use Rattle.std.proofs.lemmas.List.{get_or-set_same, get_or-set_other, get_or_append_left, length-append, length-set}
+use Rattle.std.proofs.lemmas.List.{append-nil, append_assoc, get_or-set_same, get_or-set_other, get_or_append_left, length-append, length-replicate, length-set}
+use Rattle.std.proofs.lemmas.Bool.Decides.{eqb_tells}
 use Rattle.std.proofs.lemmas.List.Sums.{sum_by-set}
 use Rattle.scaled_num.proofs.Sums.{each-append, each-at}
 use Rattle.game_model.specs.Branches.{Branch}
@@ -11,33 +12,20 @@ use Rattle.controller.specs.Export.{AreKept, IsReached, IsWay, LeadTo}
 use Rattle.controller.specs.Reached.{AreFound, ListsAlso, IsListed, NameMembers, flag_at, members_of}
 use Rattle.controller.proofs.Listed.{leads, led-one, listed-front, listed-last}
 
-true-not_false : (b : Bool) → b ≡ false → IsTrue b → ⊥
-true-not_false b e t = cc
-
 -- only a member has a mark
 pub marked-inside : (flags : List Bool) (j : ℕ) → IsTrue (flag_at flags j) → j < length flags
 marked-inside [] j t = cc
 marked-inside (f ∷ fs) zero t = omega arith
 marked-inside (f ∷ fs) (suc j) t = let inside = marked-inside fs j t in omega arith
 
-same-or : (i j : ℕ) → (i ≡ j) ⊎ (i ≡ j → ⊥)
-same-or zero zero = inl refl
-same-or zero (suc j) = inr (λ e. omega arith)
-same-or (suc i) zero = inr (λ e. omega arith)
-same-or (suc i) (suc j) =
-    elim (same-or i j) as (λ _. (suc i ≡ suc j) ⊎ (suc i ≡ suc j → ⊥)) [
-      | inl e ↦ inl (ap suc e)
-      | inr ne ↦ inr (λ e. ne (omega arith))
-    ]
-
 -- ---- one more member is found
 mark-is : (flags : List Bool) (j i : ℕ) → j < length flags → IsTrue (flag_at (set flags j true) i) ↔ (IsTrue (flag_at flags i) ⊎ (i ≡ j))
 mark-is flags j i l =
-    elim (same-or i j) as (λ _. IsTrue (flag_at (set flags j true) i) ↔ (IsTrue (flag_at flags i) ⊎ (i ≡ j))) [
-      | inl e ↦ (λ t. inr e, λ w. subst (λ (k : ℕ). IsTrue (flag_at (set flags j true) k)) (sym e) (get_or-set_same flags j true false l))
+    elim (eqb_tells i j) as (λ _. IsTrue (flag_at (set flags j true) i) ↔ (IsTrue (flag_at flags i) ⊎ (i ≡ j))) [
+      | inl e ↦ (λ t. inr e.1, λ w. subst (λ (k : ℕ). IsTrue (flag_at (set flags j true) k)) (sym e.1) (get_or-set_same flags j true false l))
       | inr ne ↦ (
-        λ t. inl (sym (get_or-set_other flags j i true false ne) ∙ t),
-        λ w. elim w as (λ _. IsTrue (flag_at (set flags j true) i)) [ inl t ↦ get_or-set_other flags j i true false ne ∙ t | inr e ↦ absurd (ne e) ],
+        λ t. inl (sym (get_or-set_other flags j i true false ne.1) ∙ t),
+        λ w. elim w as (λ _. IsTrue (flag_at (set flags j true) i)) [ inl t ↦ get_or-set_other flags j i true false ne.1 ∙ t | inr e ↦ absurd (ne.1 e) ],
       )
     ]
 
@@ -75,19 +63,15 @@ find flags numbers j h l e =
 pub find-none : (flags : List Bool) (numbers : List ℕ) (P : ℕ → Type 0) → AreFound flags numbers → ((j : ℕ) → P j → IsTrue (flag_at flags j)) → ListsAlso flags numbers flags numbers P
 find-none flags numbers P h known = record {
   found = h;
-  goes_on = record { more = []; is = nothing numbers };
+  goes_on = record { more = []; is = sym (append-nil numbers) };
   marks = record { long = refl; marked = λ j l. (λ t. inl t, λ w. elim w as (λ _. IsTrue (flag_at flags j)) [ inl t ↦ t | inr p ↦ known j p ]) };
 }
-  where
-    nothing : (xs : List ℕ) → xs ≡ xs ++ []
-    nothing [] = refl
-    nothing (x ∷ xs) = ap (λ (ys : List ℕ). x ∷ ys) (nothing xs)
 
 -- first these are found, and then those
 pub find-both : (a b c : List Bool) (xs ys zs : List ℕ) (P Q R : ℕ → Type 0) → ((j : ℕ) → R j ↔ (P j ⊎ Q j)) → ListsAlso a xs b ys P → ListsAlso b ys c zs Q → ListsAlso a xs c zs R
 find-both a b c xs ys zs P Q R both first second = record {
   found = second.found;
-  goes_on = record { more = first.goes_on.more ++ second.goes_on.more; is = second.goes_on.is ∙ ap (λ (us : List ℕ). us ++ second.goes_on.more) first.goes_on.is ∙ joined xs first.goes_on.more second.goes_on.more };
+  goes_on = record { more = first.goes_on.more ++ second.goes_on.more; is = second.goes_on.is ∙ ap (λ (us : List ℕ). us ++ second.goes_on.more) first.goes_on.is ∙ append_assoc xs first.goes_on.more second.goes_on.more };
   marks = record {
     long = second.marks.long ∙ first.marks.long;
     marked = λ j l.
@@ -106,10 +90,6 @@ find-both a b c xs ys zs P Q R both first second = record {
         );
   };
 }
-  where
-    joined : (xs ys zs : List ℕ) → (xs ++ ys) ++ zs ≡ xs ++ (ys ++ zs)
-    joined [] ys zs = refl
-    joined (x ∷ xs) ys zs = ap (λ (us : List ℕ). x ∷ us) (joined xs ys zs)
 
 -- ---- all that are reached
 -- the first ones are marked, and all that the listed ones up to a place name, and all marked ones are reached
@@ -125,14 +105,10 @@ none-marked zero j t = cc
 none-marked (suc count) zero t = cc
 none-marked (suc count) (suc j) t = none-marked count j t
 
-long-replicate : (count : ℕ) → length (replicate count false) ≡ count
-long-replicate zero = refl
-long-replicate (suc count) = ap suc (long-replicate count)
-
 pub reaching-first : (branches : ℕ → List Branch) (IsFirst : ℕ → Type 0) (count : ℕ) (flags : List Bool) (none numbers : List ℕ) (P : ℕ → Type 0) → ((j : ℕ) → P j ↔ IsFirst j) →
     ListsAlso (replicate count false) none flags numbers P → Reaching branches IsFirst count 0 flags numbers
 reaching-first branches IsFirst count flags none numbers P same h =
-    let long : length (replicate count false) ≡ count = long-replicate count in
+    let long : length (replicate count false) ≡ count = length-replicate count false in
     let marked = λ (j : ℕ) (l : j < count). h.marks.marked j (subst (λ (n : ℕ). j < n) (sym long) l) in
     record {
       found = h.found;

@@ -2,7 +2,7 @@
 use Rattle.std.proofs.Common.{◌≡◌, ℕ, zero, suc, ◌+◌, ◌-◌, ◌<◌, ◌≤◌, Bool, true, false, cond, List, [], ◌∷◌, ◌++◌, length, get_or, map, refl, ap, arith, sym, subst, ◌∙◌, inl, inr, filter, add-one}
 use Rattle.std.specs.Prelude.{IsTrue}
 use Rattle.std.specs.List.{AllByRecursion, range_with_len}
-use Rattle.std.proofs.lemmas.List.{get_or_append_left, length-append, length-map, map-append}
+use Rattle.std.proofs.lemmas.List.{append-nil, get_or_append_left, length-append, length-map, map-append}
 use Rattle.std.proofs.lemmas.List.Elements.{filter-append}
 use Rattle.std.proofs.lemmas.List.Sums.{length-filter}
 use Rattle.std.proofs.Math.Seq.{get_or-append_seam}
@@ -112,13 +112,9 @@ each-kept kept n = passing kept n (below n) (below-each (λ j. j < n) n (λ j l.
 pub keep-no : {X : Type 0} (f : ℕ → X) (kept : ℕ → Bool) (n : ℕ) (xs : List X) → xs ≡ map f (kept_below kept n) → kept n ≡ false → xs ≡ map f (kept_below kept (n + 1))
 keep-no {X} f kept n xs before not_kept =
     before
-    ∙ ap (λ (ks : List ℕ). map f ks) (sym (nothing (kept_below kept n)))
+    ∙ ap (λ (ks : List ℕ). map f ks) (sym (append-nil (kept_below kept n)))
     ∙ ap (λ (b : Bool). map f (kept_below kept n ++ cond b (n ∷ []) [])) (sym not_kept)
     ∙ ap (λ (ks : List ℕ). map f ks) (sym (kept-more kept n) ∙ ap (kept_below kept) (sym (add-one n)))
-  where
-    nothing : (ks : List ℕ) → ks ++ [] ≡ ks
-    nothing [] = refl
-    nothing (k ∷ ks) = ap (λ (us : List ℕ). k ∷ us) (nothing ks)
 
 pub keep-yes : {X : Type 0} (f : ℕ → X) (kept : ℕ → Bool) (n : ℕ) (xs ys : List X) (x : X) → xs ≡ map f (kept_below kept n) → ys ≡ xs ++ x ∷ [] → x ≡ f n → kept n ≡ true →
     ys ≡ map f (kept_below kept (n + 1))

@@ -115,7 +115,7 @@ each-swap : {X : Type 0} (P : ℕ → X → Type 0) (n : ℕ) (xs : List X) → 
 each-swap P n [] h = tt
 each-swap P n (x ∷ xs) h = (λ s l. (h s l).0, each-swap P n xs (λ s l. (h s l).1))
 
-each-two : {X : Type 0} (P Q R : X → Type 0) (xs : List X) → ((x : X) → P x → Q x → R x) → AllByRecursion P xs → AllByRecursion Q xs → AllByRecursion R xs
+pub each-two : {X : Type 0} (P Q R : X → Type 0) (xs : List X) → ((x : X) → P x → Q x → R x) → AllByRecursion P xs → AllByRecursion Q xs → AllByRecursion R xs
 each-two P Q R [] f p q = tt
 each-two P Q R (x ∷ xs) f p q = (f x p.0 q.0, each-two P Q R xs f p.1 q.1)
 
