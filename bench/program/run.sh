@@ -39,6 +39,10 @@ bound=$'action 1\nlower -1179657/65536\ntail 3932160/65536\n'
 yes=$'yes\nlower 65536/131072 0.500000\nupper 65536/131072 0.500000\ntail 65536/65536 1.000000\n'
 expect 'a bound' 0 "$bound" floor <"$games/patrol.game"
 expect 'a yes' 0 "$yes" check < <(guess '')
+expect 'a certificate whose gap is closed' 0 "$(cat "$games/matching-pennies.cert")"$'\n' solve <"$games/matching-pennies.game"
+expect 'both spellings of options' 0 "$(cat "$games/matching-pennies.cert")"$'\n' solve --gap=01/0100 --trials 7 \
+    <"$games/matching-pennies.game"
+expect 'a certificate whose gap is open' 2 "$(cat "$games/patrol.cert")"$'\n' solve <"$games/patrol.game"
 expect 'a place that fails' 1 $'no split 2 action 0 seen 0 state 0\n' check \
     < <(guess '/^point 2/,$s/^split 0 0 0 65536/split 0 0 0 65535/')
 expect 'a refused game' 3 $'game refused: line 1 kind 9\n' floor </dev/null
@@ -46,6 +50,7 @@ expect 'a refused certificate' 4 $'certificate refused: line 1 kind 10\n' check 
 # A directory can't be read, so nothing of it is read where the words are refused.
 expect 'no words' 5 $'words refused\n' </
 expect 'unknown words' 5 $'words refused\n' solve -- </
+expect 'a trial too many' 5 $'words refused\n' solve --trials 10001 </
 expect 'a word too many' 5 $'words refused\n' floor floor </
 expect 'unreadable input' 6 '' floor </
 "$program" floor <"$games/patrol.game" 2>"$folder/err" >/dev/full
