@@ -161,7 +161,9 @@ impl NodeSet {
         requires fits { NodeFits game.now (length self.now.members) (node_data node.now) }
         requires states { length worths.old ≡ game.now.shape.states }
         ensures long { length worths.new ≡ game.now.shape.states }
-        ensures least { (s : ℕ) → s < game.now.shape.states → IsLeastOf (node_worth (numbers game.now) (nodes_of self.now.members) (node_of (node_data node.now)) s) game.now.shape.informed_actions (at worths.new s) }
+        ensures least { (s : ℕ) → s < game.now.shape.states →
+            IsLeastOf (node_worth (numbers game.now) (nodes_of self.now.members) (node_of (node_data node.now)) s)
+            game.now.shape.informed_actions (at worths.new s) }
     {
         stage_worths(game, &self.nodes, node, worths);
     }

@@ -16,7 +16,9 @@ pub fn stage_worths(game: &Game, nodes: &[Node], node: &Node, worths: &mut [i128
     requires member { IsMember game.now nodes.now node.now }
     requires states { length worths.old ≡ game.now.shape.states }
     ensures long { length worths.new ≡ game.now.shape.states }
-    ensures least { (s : ℕ) → s < game.now.shape.states → IsLeastOf (node_worth (numbers game.now) (nodes_of (data_of nodes.now)) (node_of (node_data node.now)) s) game.now.shape.informed_actions (at worths.new s) }
+    ensures least { (s : ℕ) → s < game.now.shape.states →
+        IsLeastOf (node_worth (numbers game.now) (nodes_of (data_of nodes.now)) (node_of (node_data node.now)) s)
+        game.now.shape.informed_actions (at worths.new s) }
 {
     let mut table = [0; TABLE];
     fill(game, nodes, node, &mut table);
@@ -29,7 +31,9 @@ fn least_worths(game: &Game, mix: &[i128], table: &[i128], worths: &mut [i128])
     requires table { IsTable game.now table.now }
     requires states { length worths.old ≡ game.now.shape.states }
     ensures long { length worths.new ≡ game.now.shape.states }
-    ensures least { (s : ℕ) → s < game.now.shape.states → IsLeastOf (worth_by (numbers game.now) (mix_of mix.now) table.now s) game.now.shape.informed_actions (at worths.new s) }
+    ensures least { (s : ℕ) → s < game.now.shape.states →
+        IsLeastOf (worth_by (numbers game.now) (mix_of mix.now) table.now s) game.now.shape.informed_actions
+        (at worths.new s) }
 {
     law_game(game);
     for (s, worth) in worths.iter_mut().enumerate() {
@@ -42,7 +46,8 @@ fn least_worth(game: &Game, mix: &[i128], table: &[i128], s: u32) -> i128
     requires mix { IsMix game.now.shape.own_actions mix.now }
     requires table { IsTable game.now table.now }
     requires state { s < game.now.shape.states }
-    ensures { IsLeastOf (worth_by (numbers game.now) (mix_of mix.now) table.now s) game.now.shape.informed_actions result }
+    ensures { IsLeastOf (worth_by (numbers game.now) (mix_of mix.now) table.now s) game.now.shape.informed_actions
+        result }
 {
     law_game(game);
     let mut least = stage_worth(game, mix, table, s, 0);

@@ -55,12 +55,15 @@ pub fn lower_visit(
     requires room { HasRoomForLowers solver.old game.now nodes.now.members }
     ensures rows { solver.new.most_rows ≡ solver.old.most_rows }
     ensures variables { solver.new.most_variables ≡ solver.old.most_variables }
-    ensures visit { IfOk result (λ made. IsLowerVisit game.now belief.now nodes.now.members (lower_data made.0) (node_data made.1)) }
+    ensures visit { IfOk result (λ made.
+        IsLowerVisit game.now belief.now nodes.now.members (lower_data made.0) (node_data made.1)) }
     ensures advice { IfOk result (λ made. LowerFits game.now (length nodes.now.members) (lower_data made.0)) }
     ensures bounded { IfOk result (λ made. (col : ℕ) → made.0.end ≡ End.Unbounded col → ⊥) }
     ensures fits { IfOk result (λ made. NodeFits game.now (length nodes.now.members) (node_data made.1)) }
-    ensures stands { IfOk result (λ made. NodeStands (numbers game.now) (nodes_of nodes.now.members) (node_of (node_data made.1))) }
-    ensures stays { IfOk result (λ made. (more : List NodeData) → NodeStands (numbers game.now) (nodes_of (nodes.now.members ++ more)) (node_of (node_data made.1))) }
+    ensures stands { IfOk result (λ made.
+        NodeStands (numbers game.now) (nodes_of nodes.now.members) (node_of (node_data made.1))) }
+    ensures stays { IfOk result (λ made. (more : List NodeData) →
+        NodeStands (numbers game.now) (nodes_of (nodes.now.members ++ more)) (node_of (node_data made.1))) }
 {
     let first = first_run(alloc, solver, game, belief, nodes)?;
     let priced = lower_candidates(alloc, game, belief, nodes, Some(&first.advice.informed))?;
@@ -118,7 +121,8 @@ fn best_run(
     requires worth { HasWorth belief.now first }
     ensures rows { solver.new.most_rows ≡ solver.old.most_rows }
     ensures variables { solver.new.most_variables ≡ solver.old.most_variables }
-    ensures run { IfOk result (λ run. IsBestRun game.now belief.now nodes.now.members priced.now (run_data first) (run_data run)) }
+    ensures run { IfOk result (λ run.
+        IsBestRun game.now belief.now nodes.now.members priced.now (run_data first) (run_data run)) }
     ensures sound { IfOk result (λ run. IsSound game.now nodes.now.members (run_data run)) }
 {
     let mut best = first;
@@ -162,7 +166,8 @@ fn lower_run(
     requires bits { AreBits bits }
     ensures rows { solver.new.most_rows ≡ solver.old.most_rows }
     ensures variables { solver.new.most_variables ≡ solver.old.most_variables }
-    ensures run { IfOk result (λ run. IsLowerRun game.now belief.now nodes.now.members candidates.now bits (run_data run)) }
+    ensures run { IfOk result (λ run.
+        IsLowerRun game.now belief.now nodes.now.members candidates.now bits (run_data run)) }
     ensures sound { IfOk result (λ run. IsSound game.now nodes.now.members (run_data run)) }
     ensures worth { IfOk result (HasWorth belief.now) }
 {

@@ -35,8 +35,10 @@ pub fn new_node(
     requires advice { LowerFits game.now (length nodes.now.members) (lower_data advice.now) }
     ensures node { IfOk result (λ node. IsNewNode game.now nodes.now.members (lower_data advice.now) (node_data node)) }
     ensures fits { IfOk result (λ node. NodeFits game.now (length nodes.now.members) (node_data node)) }
-    ensures stands { IfOk result (λ node. NodeStands (numbers game.now) (nodes_of nodes.now.members) (node_of (node_data node))) }
-    ensures stays { IfOk result (λ node. (more : List NodeData) → NodeStands (numbers game.now) (nodes_of (nodes.now.members ++ more)) (node_of (node_data node))) }
+    ensures stands { IfOk result (λ node.
+        NodeStands (numbers game.now) (nodes_of nodes.now.members) (node_of (node_data node))) }
+    ensures stays { IfOk result (λ node. (more : List NodeData) →
+        NodeStands (numbers game.now) (nodes_of (nodes.now.members ++ more)) (node_of (node_data node))) }
 {
     law_game(game);
     let mut node = advised(alloc, game, advice)?;

@@ -39,10 +39,13 @@ pub fn new_point(
     requires belief { BeliefFits game.now belief.now }
     requires points { PointsServe game.now points.now.members }
     requires advice { UpperFits game.now points.now.members (upper_data advice.now) }
-    ensures point { IfOk result (λ point. IsNewPoint game.now belief.now points.now.members (upper_data advice.now) (point_data point)) }
+    ensures point { IfOk result (λ point.
+        IsNewPoint game.now belief.now points.now.members (upper_data advice.now) (point_data point)) }
     ensures fits { IfOk result (λ point. PointFits game.now (length points.now.members) (point_data point)) }
-    ensures stands { IfOk result (λ point. PointStands (numbers game.now) (points_of points.now.members) (point_of (point_data point))) }
-    ensures stays { IfOk result (λ point. (more : List PointData) → PointStands (numbers game.now) (points_of (points.now.members ++ more)) (point_of (point_data point))) }
+    ensures stands { IfOk result (λ point.
+        PointStands (numbers game.now) (points_of points.now.members) (point_of (point_data point))) }
+    ensures stays { IfOk result (λ point. (more : List PointData) →
+        PointStands (numbers game.now) (points_of (points.now.members ++ more)) (point_of (point_data point))) }
 {
     law_game(game);
     prove!(points.len() as usize <= MOST_POINTS);
@@ -62,7 +65,8 @@ fn split_point(
     requires belief { BeliefFits game.now belief.now }
     requires points { PointsServe game.now points.now.members }
     requires advice { UpperFits game.now points.now.members (upper_data advice.now) }
-    ensures { IfOk result (λ point. IsSplitBy game.now belief.now (upper_data advice.now) points.now.members (pos 0) (point_data point)) }
+    ensures { IfOk result (λ point.
+        IsSplitBy game.now belief.now (upper_data advice.now) points.now.members (pos 0) (point_data point)) }
 {
     let mixes = advice.informed.copied()?;
     let splits = split_masses(alloc, game, belief, advice, points)?;
@@ -85,7 +89,9 @@ fn split_masses(
     requires belief { BeliefFits game.now belief.now }
     requires points { PointsServe game.now points.now.members }
     requires advice { UpperFits game.now points.now.members (upper_data advice.now) }
-    ensures { IfOk result (λ shares. AreShares game.now belief.now advice.now.informed (map branch_of advice.now.wanted.items) points.now.members (map branch_of shares.items)) }
+    ensures { IfOk result (λ shares.
+        AreShares game.now belief.now advice.now.informed (map branch_of advice.now.wanted.items) points.now.members
+        (map branch_of shares.items)) }
 {
     let mut shares = Vec::new(alloc);
     for a in 0..game.own_actions() {
@@ -108,7 +114,9 @@ fn split_after(
     requires points { PointsServe game.now points.now.members }
     requires advice { UpperFits game.now points.now.members (upper_data advice.now) }
     requires own { a < game.now.shape.own_actions }
-    ensures { OnOk result (AddsShares game.now belief.now advice.now.informed (map branch_of advice.now.wanted.items) points.now.members a (map branch_of shares.old.items) (map branch_of shares.new.items)) }
+    ensures { OnOk result
+        (AddsShares game.now belief.now advice.now.informed (map branch_of advice.now.wanted.items) points.now.members a
+        (map branch_of shares.old.items) (map branch_of shares.new.items)) }
 {
     for o in 0..game.observations() {
         split_seen(alloc, game, belief, advice, points, a, o, shares)?;
@@ -132,7 +140,10 @@ fn split_seen(
     requires advice { UpperFits game.now points.now.members (upper_data advice.now) }
     requires own { a < game.now.shape.own_actions }
     requires seen { o < game.now.shape.observations }
-    ensures { OnOk result (AddsSharesAfter game.now belief.now advice.now.informed (map branch_of advice.now.wanted.items) points.now.members a o (map branch_of shares.old.items) (map branch_of shares.new.items)) }
+    ensures { OnOk result
+        (AddsSharesAfter game.now belief.now advice.now.informed
+        (map branch_of advice.now.wanted.items) points.now.members a o (map branch_of shares.old.items)
+        (map branch_of shares.new.items)) }
 {
     law_game(game);
     let mut masses = [0; MOST_STATES];
@@ -150,7 +161,8 @@ fn wanted_after(
     a: u32,
     o: u32,
 ) -> Result<Vec<(u32, i128)>, AllocError>
-    ensures { IfOk result (λ pairs. pairs.items ≡ map (λ share. (share.k, share.weight)) (filter (IsAfter a o) wanted.now)) }
+    ensures { IfOk result (λ pairs.
+        pairs.items ≡ map (λ share. (share.k, share.weight)) (filter (IsAfter a o) wanted.now)) }
 {
     wanted
         .iter()
@@ -175,7 +187,8 @@ fn split_of(points: &PointSet, wanted: &[(u32, i128)], mass: &[i128]) -> Split
 
 /// Adds the items of a split as shares.
 fn add_items(split: &Split, a: u32, o: u32, shares: &mut Vec<Share>) -> Result<(), AllocError>
-    ensures { OnOk result (map branch_of shares.new.items ≡ map branch_of shares.old.items ++ split_branches a o split.now) }
+    ensures { OnOk result
+        (map branch_of shares.new.items ≡ map branch_of shares.old.items ++ split_branches a o split.now) }
 {
     for i in 0..split.len() {
         let (k, weight) = split.item(i);

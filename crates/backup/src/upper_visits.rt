@@ -54,12 +54,15 @@ pub fn upper_visit(
     requires room { HasRoomForUppers solver.old game.now points.now.members }
     ensures rows { solver.new.most_rows ≡ solver.old.most_rows }
     ensures variables { solver.new.most_variables ≡ solver.old.most_variables }
-    ensures visit { IfOk result (λ made. IsUpperVisit game.now belief.now points.now.members (upper_data made.0) (point_data made.1)) }
+    ensures visit { IfOk result (λ made.
+        IsUpperVisit game.now belief.now points.now.members (upper_data made.0) (point_data made.1)) }
     ensures advice { IfOk result (λ made. UpperFits game.now points.now.members (upper_data made.0)) }
     ensures bounded { IfOk result (λ made. (col : ℕ) → made.0.end ≡ End.Unbounded col → ⊥) }
     ensures fits { IfOk result (λ made. PointFits game.now (length points.now.members) (point_data made.1)) }
-    ensures stands { IfOk result (λ made. PointStands (numbers game.now) (points_of points.now.members) (point_of (point_data made.1))) }
-    ensures stays { IfOk result (λ made. (more : List PointData) → PointStands (numbers game.now) (points_of (points.now.members ++ more)) (point_of (point_data made.1))) }
+    ensures stands { IfOk result (λ made.
+        PointStands (numbers game.now) (points_of points.now.members) (point_of (point_data made.1))) }
+    ensures stays { IfOk result (λ made. (more : List PointData) →
+        PointStands (numbers game.now) (points_of (points.now.members ++ more)) (point_of (point_data made.1))) }
 {
     let first = first_run(alloc, solver, game, belief, points)?;
     let priced = upper_candidates(alloc, game, belief, points, Some(&first.advice.informed))?;
@@ -115,7 +118,8 @@ fn best_run(
     requires sound { IsSound game.now points.now.members (run_data first) }
     ensures rows { solver.new.most_rows ≡ solver.old.most_rows }
     ensures variables { solver.new.most_variables ≡ solver.old.most_variables }
-    ensures run { IfOk result (λ run. IsBestRun game.now belief.now points.now.members priced.now (run_data first) (run_data run)) }
+    ensures run { IfOk result (λ run.
+        IsBestRun game.now belief.now points.now.members priced.now (run_data first) (run_data run)) }
     ensures sound { IfOk result (λ run. IsSound game.now points.now.members (run_data run)) }
 {
     let mut best = first;
@@ -159,7 +163,8 @@ fn upper_run(
     requires bits { AreBits bits }
     ensures rows { solver.new.most_rows ≡ solver.old.most_rows }
     ensures variables { solver.new.most_variables ≡ solver.old.most_variables }
-    ensures run { IfOk result (λ run. IsUpperRun game.now belief.now points.now.members candidates.now bits (run_data run)) }
+    ensures run { IfOk result (λ run.
+        IsUpperRun game.now belief.now points.now.members candidates.now bits (run_data run)) }
     ensures sound { IfOk result (λ run. IsSound game.now points.now.members (run_data run)) }
 {
     let advice = upper_advice(alloc, solver, game, belief, points, candidates, bits)?;

@@ -55,7 +55,9 @@ fn starts_right(game: &Game, certificate: &Certificate) -> bool
 fn is_made_up(game: &Game, certificate: &Certificate, s: u32) -> bool
     requires fits { CertificateFits game.now certificate.now }
     requires state { s < game.now.shape.states }
-    ensures { IsTrue result ↔ (weighted certificate.now.start_points (λ j. at (point_at certificate.now.points j).belief s) ≡ certificate.now.multiple *ℤ at game.now.first s) }
+    ensures { IsTrue result ↔
+        (weighted certificate.now.start_points (λ j. at (point_at certificate.now.points j).belief s)
+        ≡ certificate.now.multiple *ℤ at game.now.first s) }
 {
     law_game(game);
     let points = &certificate.points;
@@ -86,7 +88,8 @@ fn bounds_are(game: &Game, certificate: &Certificate) -> bool
 /// Whether the lower bound is that of the start nodes.
 fn is_lower(game: &Game, certificate: &Certificate) -> bool
     requires { CertificateFits game.now certificate.now }
-    ensures { IsTrue result ↔ IsFraction certificate.now.lower (lower_sum game.now certificate.now) (lower_scale game.now certificate.now) }
+    ensures { IsTrue result ↔
+        IsFraction certificate.now.lower (lower_sum game.now certificate.now) (lower_scale game.now certificate.now) }
 {
     let bound = lower_bound(game, &certificate.nodes, &certificate.start_nodes);
     is_same(&certificate.lower, &bound)
@@ -96,7 +99,8 @@ fn is_lower(game: &Game, certificate: &Certificate) -> bool
 fn is_upper(game: &Game, certificate: &Certificate) -> bool
     requires fits { CertificateFits game.now certificate.now }
     requires start { Holds game.now certificate.now StartAt }
-    ensures { IsTrue result ↔ IsFraction certificate.now.upper (upper_sum certificate.now) (upper_scale game.now certificate.now) }
+    ensures { IsTrue result ↔
+        IsFraction certificate.now.upper (upper_sum certificate.now) (upper_scale game.now certificate.now) }
 {
     let starts = &certificate.start_points;
     let bound = upper_bound(game, &certificate.points, starts, certificate.multiple);

@@ -21,7 +21,7 @@ kept-one branches IsFirst count kept other h m =
 pub exports-one : ExportsAreOne
 exports-one g parts k other e o =
     let made : (ℕ → Bool) → (ℕ → Bool) → CertificateData =
-        λ nodes points. with_bounds (parts_kept nodes points parts) (proved_lower g parts) (proved_upper g parts) (proved_tail g) in
+    λ nodes points. with_bounds (parts_kept nodes points parts) (proved_lower g parts) (proved_upper g parts) (proved_tail g) in
     let nodes : e.nodes ≡ o.nodes = kept-one _ _ _ e.nodes o.nodes e.nodes_reached o.nodes_reached in
     let points : e.points ≡ o.points = kept-one _ _ _ e.points o.points e.points_reached o.points_reached in
     e.same ∙ ap (λ (n : ℕ → Bool). made n e.points) nodes ∙ ap (made o.nodes) points ∙ sym o.same

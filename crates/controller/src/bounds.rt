@@ -44,7 +44,8 @@ pub fn lower_bound(game: &Game, nodes: &NodeSet, starts: &[(u32, i128)]) -> Frac
     requires nodes { AreNodes game.now nodes.now.members }
     requires starts { AreStarts (length nodes.now.members) (pos most_from) starts.now }
     requires light { weights_sum starts.now ≤ℤ pos most_from }
-    ensures { IsFraction (fraction_data result) (weighted starts.now (node_product game.now nodes.now.members)) (weights_sum starts.now *ℤ pos (first_total game.now * unit)) }
+    ensures { IsFraction (fraction_data result) (weighted starts.now (node_product game.now nodes.now.members))
+        (weights_sum starts.now *ℤ pos (first_total game.now * unit)) }
 {
     let num = weighted_product(game, nodes, starts);
     let den = sum_of_weights(starts) * bound_scale(game);
@@ -63,7 +64,8 @@ pub fn upper_bound(
     requires starts { AreStarts (length points.now.members) (pos most_over) starts.now }
     requires multiple { IsWithin (pos 1) (pos most_from) multiple }
     requires made_up { MakesUpMultiple points.now.members starts.now multiple game.now.first game.now.shape.states }
-    ensures { IsFraction (fraction_data result) (weighted starts.now (λ j. (points_of points.now.members j).value)) (multiple *ℤ pos (first_total game.now * unit)) }
+    ensures { IsFraction (fraction_data result) (weighted starts.now (λ j. (points_of points.now.members j).value))
+        (multiple *ℤ pos (first_total game.now * unit)) }
 {
     law_game(game);
     let num = weighted_value(points, starts);

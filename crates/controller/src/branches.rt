@@ -17,7 +17,8 @@ pub fn are_branches(game: &Game, members: u32, most: i128, branches: &[Branch]) 
 
 /// Whether each branch is in range.
 fn are_in_range(game: &Game, members: u32, most: i128, branches: &[Branch]) -> bool
-    ensures { IsTrue result ↔ AllByRecursion (λ b. IsBranch (numbers game.now) members most (branch_of b)) branches.now }
+    ensures { IsTrue result ↔
+        AllByRecursion (λ b. IsBranch (numbers game.now) members most (branch_of b)) branches.now }
 {
     for branch in branches {
         if !is_in_range(game, members, most, branch) {

@@ -39,11 +39,17 @@ pub fn export(
     gap: &Fraction,
     outcome: Outcome,
 ) -> Result<Certificate, AllocError>
-    requires fit { PartsFit game.now (parts nodes.now points.now start_nodes.now start_points.now multiple (fraction_data gap.now) (ending_of outcome)) }
+    requires fit { PartsFit game.now
+        (parts nodes.now points.now start_nodes.now start_points.now multiple (fraction_data gap.now)
+        (ending_of outcome)) }
     requires start { MakesUpMultiple points.now.members start_points.now multiple game.now.first game.now.shape.states }
-    ensures exported { IfOk result (IsExport game.now (parts nodes.now points.now start_nodes.now start_points.now multiple (fraction_data gap.now) (ending_of outcome))) }
+    ensures exported { IfOk result
+        (IsExport game.now (parts nodes.now points.now start_nodes.now start_points.now multiple (fraction_data gap.now)
+        (ending_of outcome))) }
     ensures fits { IfOk result (CertificateFits game.now) }
-    ensures stands { PartsStand game.now (parts nodes.now points.now start_nodes.now start_points.now multiple (fraction_data gap.now) (ending_of outcome)) → IfOk result (CertificateStands game.now) }
+    ensures stands { PartsStand game.now
+        (parts nodes.now points.now start_nodes.now start_points.now multiple (fraction_data gap.now)
+        (ending_of outcome)) → IfOk result (CertificateStands game.now) }
 {
     law_game(game);
     let (nodes_kept, nodes_from) = export_nodes(alloc, game, nodes, start_nodes)?;

@@ -62,7 +62,10 @@ fn is_mix(game: &Game, mix: &[i128]) -> bool
 fn sums_are(game: &Game, node: &Node) -> bool
     requires mix { IsMix game.now.shape.own_actions (node_data node.now).mix }
     requires next { AllByRecursion (λ step. IsWithin (pos 1) (pos mix_total) step.weight) (node_data node.now).next }
-    ensures { IsTrue result ↔ ((a o : ℕ) → a < game.now.shape.own_actions → o < game.now.shape.observations → total (λ b. b.weight) (branches_at (node_data node.now).next a o) ≡ slice_index_or (node_data node.now).mix a (pos 0)) }
+    ensures { IsTrue result ↔
+        ((a o : ℕ) → a < game.now.shape.own_actions → o < game.now.shape.observations →
+        total (λ b. b.weight) (branches_at (node_data node.now).next a o)
+        ≡ slice_index_or (node_data node.now).mix a (pos 0)) }
 {
     for a in 0..game.own_actions() {
         if !sums_are_after(game, &node.next, a, node.mix[a as usize]) {
@@ -75,7 +78,9 @@ fn sums_are(game: &Game, node: &Node) -> bool
 /// Whether after an own action and each observation the steps have a weight.
 fn sums_are_after(game: &Game, next: &[Step], a: u32, weight: i128) -> bool
     requires { AllByRecursion (λ step. IsWithin (pos 1) (pos mix_total) step.weight) (map branch_of next.now) }
-    ensures { IsTrue result ↔ ((o : ℕ) → o < game.now.shape.observations → total (λ b. b.weight) (branches_at (map branch_of next.now) a o) ≡ weight) }
+    ensures { IsTrue result ↔
+        ((o : ℕ) → o < game.now.shape.observations →
+        total (λ b. b.weight) (branches_at (map branch_of next.now) a o) ≡ weight) }
 {
     for o in 0..game.observations() {
         if weight_after(next, a, o) != weight {

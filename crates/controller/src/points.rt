@@ -38,7 +38,9 @@ fn point_fits(game: &Game, count: u32, point: &Point) -> bool
 
 /// Whether the value is at most the span times the belief's total in magnitude.
 fn is_value(game: &Game, point: &Point) -> bool
-    ensures { IsTrue result ↔ IsWithin (neg_ℤ (pos (span game.now) *ℤ sum_of point.now.belief)) (pos (span game.now) *ℤ sum_of point.now.belief) point.now.value }
+    ensures { IsTrue result ↔
+        IsWithin (neg_ℤ (pos (span game.now) *ℤ sum_of point.now.belief))
+        (pos (span game.now) *ℤ sum_of point.now.belief) point.now.value }
 {
     let most = most_value(game, &point.belief);
     -most <= point.value && point.value <= most

@@ -52,7 +52,8 @@ pub fn reached_points(
     requires corners { game.now.shape.states ≤ length points.now.members }
     requires starts { AllByRecursion (λ start. start.0 < length points.now.members) starts.now }
     ensures long { IfOk result (λ flags. length flags.items ≡ length points.now.members) }
-    ensures kept { IfOk result (λ flags. AreReachedPoints game.now.shape.states points.now.members starts.now (flag_at flags.items)) }
+    ensures kept { IfOk result (λ flags.
+        AreReachedPoints game.now.shape.states points.now.members starts.now (flag_at flags.items)) }
 {
     let mut found = Found::none(alloc, points.len())?;
     found.add_first(game.states())?;

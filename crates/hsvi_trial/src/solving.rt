@@ -43,7 +43,7 @@ pub fn solve(alloc: Global, game: &Game, trials: u32, gap: &Fraction) -> Result<
         PartsFit game.now (solved_parts (fraction_data gap.now) (solved_data solved))) }
     ensures start { IfOk result (λ solved.
         MakesUpMultiple solved.points.members solved.start_points.items solved.multiple game.now.first
-            game.now.shape.states) }
+        game.now.shape.states) }
     ensures stand { IfOk result (λ solved.
         PartsStand game.now (solved_parts (fraction_data gap.now) (solved_data solved))) }
 {

@@ -30,7 +30,10 @@ pub fn push_worth_rows(
     requires nodes { NodesServe game.now nodes.now.members }
     requires candidates { AreLowerEnds nodes.now.members candidates.now }
     requires bits { AreBits bits }
-    ensures { OnOk result (map (λ row. row.items) rows.new.items ≡ map (λ row. row.items) rows.old.items ++ map (λ number. map number (variables game.now candidates.now)) (worth_rows game.now (lower_worth_row game.now bits nodes.now.members))) }
+    ensures { OnOk result
+        (map (λ row. row.items) rows.new.items ≡ map (λ row. row.items) rows.old.items
+        ++ map (λ number. map number (variables game.now candidates.now))
+        (worth_rows game.now (lower_worth_row game.now bits nodes.now.members))) }
 {
     law_game(game);
     let places = all_pairs(alloc, game.states(), game.informed_actions())?;
@@ -60,7 +63,8 @@ fn worth_row(
     requires state { s < game.now.shape.states }
     requires informed { c < game.now.shape.informed_actions }
     requires after { after.now ≡ pairs game.now.shape.own_actions game.now.shape.observations }
-    ensures { IfOk result (λ row. row.items ≡ map (lower_worth_row game.now bits nodes.now.members s c) (variables game.now candidates.now)) }
+    ensures { IfOk result (λ row.
+        row.items ≡ map (lower_worth_row game.now bits nodes.now.members s c) (variables game.now candidates.now)) }
 {
     let mut row = Vec::with_capacity(alloc, variable_count(game, candidates.len()))?;
     push_unit(s, game.states(), &mut row)?;
@@ -78,7 +82,10 @@ fn push_pays(game: &Game, bits: u32, s: u32, c: u32, row: &mut Vec<i128>) -> Res
     requires bits { AreBits bits }
     requires state { s < game.now.shape.states }
     requires informed { c < game.now.shape.informed_actions }
-    ensures { OnOk result (row.new.items ≡ row.old.items ++ map (λ a. neg_ℤ (floor_of (paid_above game.now bits s a c) (pay_width game.now))) (below game.now.shape.own_actions)) }
+    ensures { OnOk result
+        (row.new.items ≡ row.old.items
+        ++ map (λ a. neg_ℤ (floor_of (paid_above game.now bits s a c) (pay_width game.now)))
+        (below game.now.shape.own_actions)) }
 {
     law_game(game);
     let whole = paid_over(game);
@@ -107,7 +114,9 @@ fn push_block(
     requires own { a < game.now.shape.own_actions }
     requires informed { c < game.now.shape.informed_actions }
     requires observation { o < game.now.shape.observations }
-    ensures { OnOk result (row.new.items ≡ row.old.items ++ map (λ k. neg_ℤ (node_brings game.now bits nodes.now.members s a c o k)) candidates.now) }
+    ensures { OnOk result
+        (row.new.items ≡ row.old.items
+        ++ map (λ k. neg_ℤ (node_brings game.now bits nodes.now.members s a c o k)) candidates.now) }
 {
     law_game(game);
     let (over, under) = game.discount();
@@ -129,7 +138,9 @@ pub fn push_going_on_rows(
     rows: &mut Vec<Vec<i128>>,
 ) -> Result<(), AllocError>
     requires few { count ≤ 16 }
-    ensures { OnOk result ((ends : List ℕ) → length ends ≡ count → map (λ row. row.items) rows.new.items ≡ map (λ row. row.items) rows.old.items ++ map (λ number. map number (variables game.now ends)) (over_pairs game.now (λ a o. going_on_row a o ∷ []))) }
+    ensures { OnOk result ((ends : List ℕ) → length ends ≡ count →
+        map (λ row. row.items) rows.new.items ≡ map (λ row. row.items) rows.old.items
+        ++ map (λ number. map number (variables game.now ends)) (over_pairs game.now (λ a o. going_on_row a o ∷ []))) }
 {
     law_game(game);
     let after = all_pairs(alloc, game.own_actions(), game.observations())?;

@@ -12,7 +12,8 @@ use std::alloc::{AllocError, Global};
 /// The number of variables of a stage program that goes on with so many members or next states.
 pub fn variable_count(game: &Game, ends: usize) -> usize
     requires { ends ≤ 1024 }
-    ensures { result ≡ game.now.shape.states + game.now.shape.own_actions + game.now.shape.own_actions * game.now.shape.observations * ends }
+    ensures { result ≡ game.now.shape.states + game.now.shape.own_actions + game.now.shape.own_actions
+        * game.now.shape.observations * ends }
 {
     law_game(game);
     let pairs = game.own_actions() as usize * game.observations() as usize;
@@ -21,7 +22,8 @@ pub fn variable_count(game: &Game, ends: usize) -> usize
 
 /// Pushes 1 at one place, and 0 at all others.
 pub fn push_unit(place: u32, count: u32, row: &mut Vec<i128>) -> Result<(), AllocError>
-    ensures { OnOk result (row.new.items ≡ row.old.items ++ map (λ t. cond (t == place) (pos 1) (pos 0)) (below count)) }
+    ensures { OnOk result
+        (row.new.items ≡ row.old.items ++ map (λ t. cond (t == place) (pos 1) (pos 0)) (below count)) }
 {
     for i in 0..count {
         row.push(one_at(i, place))?;
@@ -39,7 +41,8 @@ fn one_at(i: u32, place: u32) -> i128
 /// The row of the mix: 1 at each own action.
 pub fn mix_row(alloc: Global, game: &Game, ends: usize) -> Result<Vec<i128>, AllocError>
     requires { ends ≤ 1024 }
-    ensures { IfOk result (λ row. (members : List ℕ) → length members ≡ ends → row.items ≡ map mix_row (variables game.now members)) }
+    ensures { IfOk result (λ row. (members : List ℕ) → length members ≡ ends →
+        row.items ≡ map mix_row (variables game.now members)) }
 {
     let states = game.states() as usize;
     let width = variable_count(game, ends);
@@ -63,7 +66,8 @@ pub fn pair_row(
     requires action { a < game.now.shape.own_actions }
     requires observation { o < game.now.shape.observations }
     requires few { length block.now ≤ 1024 }
-    ensures { IfOk result (λ row. (number : Variable → ℤ) (ends : List ℕ) → length ends ≡ length block.now → IsPairRow number a o own ends block.now → row.items ≡ map number (variables game.now ends)) }
+    ensures { IfOk result (λ row. (number : Variable → ℤ) (ends : List ℕ) → length ends ≡ length block.now →
+        IsPairRow number a o own ends block.now → row.items ≡ map number (variables game.now ends)) }
 {
     law_game(game);
     let states = game.states() as usize;

@@ -34,7 +34,8 @@ pub fn prefer_worthy(
     requires nodes { NodesServe game.now nodes.now.members }
     requires mixes { MixesFit game.now mixes.now }
     requires after { after.now ≡ pairs game.now.shape.own_actions game.now.shape.observations }
-    ensures { OnOk result (GoesOnWorthy nodes.now.members (masses game.now belief.now mixes.now) kept.old.items kept.new.items) }
+    ensures { OnOk result
+        (GoesOnWorthy nodes.now.members (masses game.now belief.now mixes.now) kept.old.items kept.new.items) }
 {
     for pair in after {
         prefer_worthy_after(game, belief, nodes, mixes, pair.0, pair.1, kept)?;
@@ -57,7 +58,9 @@ fn prefer_worthy_after(
     requires mixes { MixesFit game.now mixes.now }
     requires own { a < game.now.shape.own_actions }
     requires observation { o < game.now.shape.observations }
-    ensures { OnOk result (GoesOnWorthy nodes.now.members (filter is_some_mass (mass_after game.now belief.now mixes.now a o ∷ [])) kept.old.items kept.new.items) }
+    ensures { OnOk result
+        (GoesOnWorthy nodes.now.members
+        (filter is_some_mass (mass_after game.now belief.now mixes.now a o ∷ [])) kept.old.items kept.new.items) }
 {
     law_game(game);
     let mut places = [0; MOST_STATES];
@@ -70,7 +73,8 @@ fn prefer_worthy_after(
 fn prefer_worthy_at(nodes: &NodeSet, mass: &[i128], kept: &mut Vec<u32>) -> Result<(), AllocError>
     requires some { 1 ≤ length nodes.now.members }
     requires weighed { AreWeighed nodes.now.members mass.now }
-    ensures { OnOk result (GoesOnWorthy nodes.now.members (filter is_some_mass (mass.now ∷ [])) kept.old.items kept.new.items) }
+    ensures { OnOk result
+        (GoesOnWorthy nodes.now.members (filter is_some_mass (mass.now ∷ [])) kept.old.items kept.new.items) }
 {
     if sum(mass) <= 0 {
         return Ok(());
@@ -92,7 +96,8 @@ pub fn prefer_best(
     requires points { PointsServe game.now points.now.members }
     requires mixes { MixesFit game.now mixes.now }
     requires after { after.now ≡ pairs game.now.shape.own_actions game.now.shape.observations }
-    ensures { OnOk result (GoesOnBest points.now.members (masses game.now belief.now mixes.now) others.old.items others.new.items) }
+    ensures { OnOk result
+        (GoesOnBest points.now.members (masses game.now belief.now mixes.now) others.old.items others.new.items) }
 {
     for pair in after {
         prefer_best_after(game, belief, points, mixes, pair.0, pair.1, others)?;
@@ -115,7 +120,9 @@ fn prefer_best_after(
     requires mixes { MixesFit game.now mixes.now }
     requires own { a < game.now.shape.own_actions }
     requires observation { o < game.now.shape.observations }
-    ensures { OnOk result (GoesOnBest points.now.members (filter is_some_mass (mass_after game.now belief.now mixes.now a o ∷ [])) others.old.items others.new.items) }
+    ensures { OnOk result
+        (GoesOnBest points.now.members
+        (filter is_some_mass (mass_after game.now belief.now mixes.now a o ∷ [])) others.old.items others.new.items) }
 {
     law_game(game);
     let mut places = [0; MOST_STATES];
@@ -127,7 +134,8 @@ fn prefer_best_after(
 /// Prefers next the best point at a mass, where there is one, unless the mass is zero.
 fn prefer_best_at(points: &PointSet, mass: &[i128], others: &mut Vec<u32>) -> Result<(), AllocError>
     requires measured { AreMeasured points.now.members mass.now }
-    ensures { OnOk result (GoesOnBest points.now.members (filter is_some_mass (mass.now ∷ [])) others.old.items others.new.items) }
+    ensures { OnOk result
+        (GoesOnBest points.now.members (filter is_some_mass (mass.now ∷ [])) others.old.items others.new.items) }
 {
     if sum(mass) <= 0 {
         return Ok(());
@@ -152,7 +160,9 @@ pub fn prefer_others(points: &PointSet, others: &mut Vec<u32>) -> Result<(), All
 /// Prefers next a point, unless its belief is a corner.
 fn prefer_other(points: &PointSet, k: u32, others: &mut Vec<u32>) -> Result<(), AllocError>
     requires { k < length points.now.members }
-    ensures { OnOk result (GoesOn most_others (filter (λ j. not (is_at_corner (point_at points.now.members j))) (k ∷ [])) others.old.items others.new.items) }
+    ensures { OnOk result
+        (GoesOn most_others (filter (λ j. not (is_at_corner (point_at points.now.members j))) (k ∷ [])) others.old.items
+        others.new.items) }
 {
     if sum(points.point(k).belief.parts()) == 1 {
         return Ok(());

@@ -25,7 +25,9 @@ fn push_steps(
     shares: &[i128],
 ) -> Result<(), AllocError>
     requires lengths { length shares.now ≡ length candidates.now }
-    ensures { IfOk result (λ _. map branch_of next.new.items ≡ map branch_of next.old.items ++ filter has_weight (listed a o candidates.now shares.now)) }
+    ensures { IfOk result (λ _.
+        map branch_of next.new.items ≡ map branch_of next.old.items
+        ++ filter has_weight (listed a o candidates.now shares.now)) }
 {
     for place in 0..candidates.len() {
         let weighs = shares[place] != 0;
@@ -65,7 +67,9 @@ fn push_steps_after(
     requires shares { length shares.old ≡ length candidates.now }
     ensures weights { length weights.new ≡ length weights.old }
     ensures shares { length shares.new ≡ length shares.old }
-    ensures steps { IfOk result (λ _. AddsStepsAfter game.now candidates.now (last_of solver.now) own.now a o (map branch_of next.old.items) (map branch_of next.new.items)) }
+    ensures steps { IfOk result (λ _.
+        AddsStepsAfter game.now candidates.now (last_of solver.now) own.now a o (map branch_of next.old.items)
+        (map branch_of next.new.items)) }
 {
     law_game(game);
     let block = (a * game.observations() + o) * candidates.len() as u32;
@@ -96,7 +100,9 @@ fn push_steps_of(
     requires shares { length shares.old ≡ length candidates.now }
     ensures weights { length weights.new ≡ length weights.old }
     ensures shares { length shares.new ≡ length shares.old }
-    ensures steps { IfOk result (λ _. AddsSteps game.now candidates.now (last_of solver.now) own.now a (map branch_of next.old.items) (map branch_of next.new.items)) }
+    ensures steps { IfOk result (λ _.
+        AddsSteps game.now candidates.now (last_of solver.now) own.now a (map branch_of next.old.items)
+        (map branch_of next.new.items)) }
 {
     for o in 0..game.observations() {
         push_steps_after(solver, game, candidates, own, a, o, weights, shares, next)?;
@@ -122,7 +128,8 @@ pub fn read_steps(
     requires short { length candidates.now ≤ 16 }
     requires variables { lower_variables game.now (length candidates.now) ≤ length (last_of solver.now).out }
     requires few { length (last_of solver.now).out < 2 ^ 32 }
-    ensures { IfOk result (λ next. AreStepsRead game.now candidates.now (last_of solver.now) own.now (map branch_of next.items)) }
+    ensures { IfOk result (λ next.
+        AreStepsRead game.now candidates.now (last_of solver.now) own.now (map branch_of next.items)) }
 {
     let mut weights = vec![in alloc; 0; candidates.len()]?;
     let mut shares = vec![in alloc; 0; candidates.len()]?;

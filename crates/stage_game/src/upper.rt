@@ -42,7 +42,10 @@ pub fn push_worth_rows(
     rows: &mut Vec<Vec<i128>>,
 ) -> Result<(), AllocError>
     requires bits { AreBits bits }
-    ensures { OnOk result (map (λ row. row.items) rows.new.items ≡ map (λ row. row.items) rows.old.items ++ map (λ number. map number (variables game.now (below game.now.shape.states))) (worth_rows game.now (upper_worth_row game.now bits))) }
+    ensures { OnOk result
+        (map (λ row. row.items) rows.new.items ≡ map (λ row. row.items) rows.old.items
+        ++ map (λ number. map number (variables game.now (below game.now.shape.states)))
+        (worth_rows game.now (upper_worth_row game.now bits))) }
 {
     law_game(game);
     let places = all_pairs(alloc, game.states(), game.informed_actions())?;
@@ -66,7 +69,8 @@ fn worth_row(
     requires state { s < game.now.shape.states }
     requires informed { c < game.now.shape.informed_actions }
     requires after { after.now ≡ pairs game.now.shape.own_actions game.now.shape.observations }
-    ensures { IfOk result (λ row. row.items ≡ map (upper_worth_row game.now bits s c) (variables game.now (below game.now.shape.states))) }
+    ensures { IfOk result (λ row.
+        row.items ≡ map (upper_worth_row game.now bits s c) (variables game.now (below game.now.shape.states))) }
 {
     law_game(game);
     let mut row = Vec::with_capacity(alloc, variable_count(game, game.states() as usize))?;
@@ -83,7 +87,10 @@ fn push_pays(game: &Game, bits: u32, s: u32, c: u32, row: &mut Vec<i128>) -> Res
     requires bits { AreBits bits }
     requires state { s < game.now.shape.states }
     requires informed { c < game.now.shape.informed_actions }
-    ensures { OnOk result (row.new.items ≡ row.old.items ++ map (λ a. neg_ℤ (ceil_of (paid_above game.now bits s a c) (pay_width game.now))) (below game.now.shape.own_actions)) }
+    ensures { OnOk result
+        (row.new.items ≡ row.old.items
+        ++ map (λ a. neg_ℤ (ceil_of (paid_above game.now bits s a c) (pay_width game.now)))
+        (below game.now.shape.own_actions)) }
 {
     law_game(game);
     let whole = paid_over(game);
@@ -108,7 +115,9 @@ fn push_block(
     requires own { a < game.now.shape.own_actions }
     requires informed { c < game.now.shape.informed_actions }
     requires observation { o < game.now.shape.observations }
-    ensures { OnOk result (row.new.items ≡ row.old.items ++ map (λ t. neg_ℤ (state_brings game.now bits s a c o t)) (below game.now.shape.states)) }
+    ensures { OnOk result
+        (row.new.items ≡ row.old.items
+        ++ map (λ t. neg_ℤ (state_brings game.now bits s a c o t)) (below game.now.shape.states)) }
 {
     law_game(game);
     let (over, under) = game.discount();
@@ -133,7 +142,11 @@ pub fn push_point_rows(
     requires points { PointsServe game.now points.now.members }
     requires candidates { AreUpperEnds game.now points.now.members candidates.now }
     requires bits { AreBits bits }
-    ensures { OnOk result (map (λ row. row.items) rows.new.items ≡ map (λ row. row.items) rows.old.items ++ map (λ number. map number (variables game.now (below game.now.shape.states))) (over_pairs game.now (λ a o. map (λ k. point_row game.now bits (point_at points.now.members k) a o) candidates.now))) }
+    ensures { OnOk result
+        (map (λ row. row.items) rows.new.items ≡ map (λ row. row.items) rows.old.items
+        ++ map (λ number. map number (variables game.now (below game.now.shape.states)))
+        (over_pairs game.now (λ a o.
+        map (λ k. point_row game.now bits (point_at points.now.members k) a o) candidates.now))) }
 {
     law_game(game);
     let after = all_pairs(alloc, game.own_actions(), game.observations())?;
@@ -156,7 +169,10 @@ fn push_rows_after(
     requires own { a < game.now.shape.own_actions }
     requires observation { o < game.now.shape.observations }
     requires long { AllByRecursion (λ part. length part.block.items ≡ game.now.shape.states) parts.now }
-    ensures { OnOk result (map (λ row. row.items) rows.new.items ≡ map (λ row. row.items) rows.old.items ++ map (λ part. map (part_row (part_data part) a o) (variables game.now (below game.now.shape.states))) parts.now) }
+    ensures { OnOk result
+        (map (λ row. row.items) rows.new.items ≡ map (λ row. row.items) rows.old.items
+        ++ map (λ part. map (part_row (part_data part) a o) (variables game.now (below game.now.shape.states)))
+        parts.now) }
 {
     law_game(game);
     for part in parts {
@@ -176,7 +192,8 @@ fn all_parts(
     requires points { PointsServe game.now points.now.members }
     requires candidates { AreUpperEnds game.now points.now.members candidates.now }
     requires bits { AreBits bits }
-    ensures { IfOk result (λ parts. map part_data parts.items ≡ map (λ k. part_of game.now bits (point_at points.now.members k)) candidates.now) }
+    ensures { IfOk result (λ parts.
+        map part_data parts.items ≡ map (λ k. part_of game.now bits (point_at points.now.members k)) candidates.now) }
 {
     let mut parts = Vec::with_capacity(alloc, candidates.len())?;
     for k in candidates {

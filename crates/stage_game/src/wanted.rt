@@ -23,7 +23,8 @@ fn push_wanted(
     weights: &[i128],
 ) -> Result<(), AllocError>
     requires lengths { length weights.now ≡ length candidates.now }
-    ensures { IfOk result (λ _. map branch_of wanted.new.items ≡ map branch_of wanted.old.items ++ listed a o candidates.now weights.now) }
+    ensures { IfOk result (λ _.
+        map branch_of wanted.new.items ≡ map branch_of wanted.old.items ++ listed a o candidates.now weights.now) }
 {
     for place in 0..candidates.len() {
         wanted.push(Share {
@@ -57,7 +58,9 @@ fn push_wanted_after(
     requires weights { length weights.old ≡ length candidates.now }
     ensures prices { length prices.new ≡ length prices.old }
     ensures weights { length weights.new ≡ length weights.old }
-    ensures wanted { IfOk result (λ _. AddsWantedAfter game.now candidates.now (last_of solver.now) a o (map branch_of wanted.old.items) (map branch_of wanted.new.items)) }
+    ensures wanted { IfOk result (λ _.
+        AddsWantedAfter game.now candidates.now (last_of solver.now) a o (map branch_of wanted.old.items)
+        (map branch_of wanted.new.items)) }
 {
     law_game(game);
     let block = (a * game.observations() + o) * candidates.len() as u32;
@@ -89,7 +92,9 @@ fn push_wanted_of(
     requires weights { length weights.old ≡ length candidates.now }
     ensures prices { length prices.new ≡ length prices.old }
     ensures weights { length weights.new ≡ length weights.old }
-    ensures wanted { IfOk result (λ _. AddsWanted game.now candidates.now (last_of solver.now) a (map branch_of wanted.old.items) (map branch_of wanted.new.items)) }
+    ensures wanted { IfOk result (λ _.
+        AddsWanted game.now candidates.now (last_of solver.now) a (map branch_of wanted.old.items)
+        (map branch_of wanted.new.items)) }
 {
     for o in 0..game.observations() {
         push_wanted_after(solver, game, candidates, a, o, prices, weights, wanted)?;
@@ -112,7 +117,8 @@ pub fn read_wanted(
     requires short { length candidates.now ≤ 24 }
     requires rows { upper_rows game.now (length candidates.now) ≤ length (last_of solver.now).basic }
     requires few { length (last_of solver.now).basic < 2 ^ 32 }
-    ensures { IfOk result (λ wanted. AreWantedRead game.now candidates.now (last_of solver.now) (map branch_of wanted.items)) }
+    ensures { IfOk result (λ wanted.
+        AreWantedRead game.now candidates.now (last_of solver.now) (map branch_of wanted.items)) }
 {
     let mut prices = vec![in alloc; 0; candidates.len()]?;
     let mut weights = vec![in alloc; 0; candidates.len()]?;

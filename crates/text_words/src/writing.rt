@@ -8,7 +8,8 @@ use std::alloc::AllocError;
 
 /// Writes numbers, a space before each.
 fn numbers(text: &mut String, numbers: &[i128]) -> Result<(), AllocError>
-    ensures { OnOk result (string_bytes text.new ≡ string_bytes text.old ++ flat_map (λ z. 32 ∷ signed_decimal z) numbers.now) }
+    ensures { OnOk result
+        (string_bytes text.new ≡ string_bytes text.old ++ flat_map (λ z. 32 ∷ signed_decimal z) numbers.now) }
 {
     for number in numbers {
         write!(text, " {number}")?;
