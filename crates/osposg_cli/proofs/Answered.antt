@@ -1,27 +1,34 @@
 -- An input has one answer, whatever the command.
-use Rattle.std.proofs.Common.{◌⊎◌, ℕ, ◌<◌, ◌≤◌, [], length, Some, None, refl, sym, ◌∙◌, arith, inl, inr}
+use Rattle.std.proofs.Common.{◌≡◌, ◌⊎◌, ℕ, ◌<◌, ◌≤◌, [], length, Some, None, refl, sym, ◌∙◌, arith, inl, inr}
 use Rattle.osposg_cli.specs.declared.words.Command.{Command}
-use Rattle.osposg_cli.specs.declared.words.Command.TheVariants.{Check, Floor, Show}
-use Rattle.osposg_cli.specs.Answer.{Answers, AnswersAreOne, InputsAreAnswered, IsWork, WorkIsDefined}
+use Rattle.osposg_cli.specs.declared.words.Command.TheVariants.{Check, Floor, Show, Solve}
+use Rattle.osposg_cli.specs.Answer.{Answers, AnswersAreOne, AsksNoSearch, InputsAreAnswered, IsWork, SolvedIsChecked, WorkIsDefined}
 use Rattle.osposg_cli.specs.Check.{AnswersCheck}
 use Rattle.osposg_cli.specs.Defined.{AreAnswered, IsAnswered, IsDefined}
 use Rattle.osposg_cli.specs.Floor.{AnswersFloor}
 use Rattle.osposg_cli.specs.Inputs.{most_input}
 use Rattle.osposg_cli.specs.Refusals.{words_refused}
 use Rattle.osposg_cli.specs.Show.{AnswersShow}
+use Rattle.osposg_cli.specs.Solve.{MakesCertificate, SolveIsDefined}
+use Rattle.osposg_cli.specs.Words.{gap_data}
+use Rattle.osposg_cli.specs.declared.status.Status.{Status}
 use Rattle.osposg_cli.specs.declared.status.Status.TheVariants.{TooLong, WordsRefused}
+use Rattle.osposg_cli.proofs.Solved.{solve-checked}
+use Rattle.game_text.specs.Laws.{AnyRest}
 use Rattle.std.proofs.lemmas.Bool.{cases_order}
 
 -- by command
-pub work-defined : IsDefined AnswersFloor → IsDefined AnswersCheck → IsDefined AnswersShow → WorkIsDefined
-work-defined floor check show Floor = floor
-work-defined floor check show Check = check
-work-defined floor check show Show = show
+pub work-defined : IsDefined AnswersFloor → SolveIsDefined → IsDefined AnswersCheck → IsDefined AnswersShow → WorkIsDefined
+work-defined floor solve check show Floor = floor
+work-defined floor solve check show (Solve trials gap) = solve trials (gap_data gap)
+work-defined floor solve check show Check = check
+work-defined floor solve check show Show = show
 
-pub work-some : AreAnswered AnswersFloor → AreAnswered AnswersCheck → AreAnswered AnswersShow → (command : Command) → AreAnswered (IsWork command)
-work-some floor check show Floor = floor
-work-some floor check show Check = check
-work-some floor check show Show = show
+pub work-some : AreAnswered AnswersFloor → AreAnswered AnswersCheck → AreAnswered AnswersShow → (command : Command) → AsksNoSearch (Some command) → AreAnswered (IsWork command)
+work-some floor check show Floor none = floor
+work-some floor check show (Solve trials gap) none = absurd none
+work-some floor check show Check none = check
+work-some floor check show Show none = show
 
 -- whatever the command
 pub too-long : (n : ℕ) → most_input < n → n ≤ most_input → ⊥
@@ -37,10 +44,22 @@ answers-once work (Some command) input status other text more (inr (l, h)) (inr 
 few-or-many : (n : ℕ) → (n ≤ most_input) ⊎ (most_input < n)
 few-or-many n = elim (cases_order n most_input) [ inl e ↦ inl (omega (arith, e)) | inr l ↦ elim l [ inl a ↦ inl (omega (arith, a)) | inr b ↦ inr b ] ]
 
-pub answers-some : ((command : Command) → AreAnswered (IsWork command)) → InputsAreAnswered
-answers-some work None input = (WordsRefused, words_refused, (refl, refl))
-answers-some work (Some command) input = found (few-or-many (length input))
+pub answers-some : ((command : Command) → AsksNoSearch (Some command) → AreAnswered (IsWork command)) → InputsAreAnswered
+answers-some work None none input = (WordsRefused, words_refused, (refl, refl))
+answers-some work (Some command) none input = found (few-or-many (length input))
   where
     found : (length input ≤ most_input) ⊎ (most_input < length input) → IsAnswered (Answers (Some command) input)
-    found (inl few) = let answer = work command input in (answer.0, answer.1, inr (few, answer.2))
+    found (inl few) = let answer = work command none input in (answer.0, answer.1, inr (few, answer.2))
     found (inr many) = (TooLong, [], inl (many, refl, refl))
+
+-- a certificate is made of an input that is not too long
+pub too_long_not : (status : Status) → status ≡ TooLong → MakesCertificate status → ⊥
+too_long_not status long (inl done) = let e = sym long ∙ done in cc
+too_long_not status long (inr open_now) = let e = sym long ∙ open_now in cc
+
+-- what `solve` wrote, behind the game's text
+pub answers-checked : AnyRest → SolvedIsChecked
+answers-checked rest trials gap input text status (inl (l, s, t)) made few = absurd (too_long_not status s made)
+answers-checked rest trials gap input text status (inr (l, h)) made few =
+    let yes = solve-checked rest trials (gap_data gap) input text status h made in
+    (yes.0, inr (few, yes.1))

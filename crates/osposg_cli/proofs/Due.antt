@@ -6,13 +6,17 @@ use Rattle.std.specs.Result.{MatchResult, IfOk, IsErrAnd}
 use Rattle.std.specs.Prelude.{Bool, true, false, IfSome, IsSome, ⊤}
 use Rattle.hsvi_io.specs.Bytes.{GaveAll, GaveTooMany, Wrote}
 use Rattle.osposg_cli.specs.declared.status.Status.{Status}
-use Rattle.osposg_cli.specs.declared.status.Status.TheVariants.{Done, No, GameRefused, CertRefused, WordsRefused, ReadFault, WriteFault, OutOfMemory, TooLong}
+use Rattle.osposg_cli.specs.declared.status.Status.TheVariants.{Done, No, Open, GameRefused, CertRefused, WordsRefused, ReadFault, WriteFault, OutOfMemory, TooLong}
 use Rattle.osposg_cli.specs.declared.words.Command.{Command}
-use Rattle.osposg_cli.specs.Answer.{Answers, AnswersAreOne, AnswersInput, Ends, InputsAreAnswered, IsDue, IsEarly, IsGiven, IsInput, IsWork, WorkIsDefined, WroteOne}
-use Rattle.osposg_cli.specs.Defined.{HasText}
+use Rattle.osposg_cli.specs.declared.words.Command.TheVariants.{Solve}
+use Rattle.osposg_cli.specs.declared.words.Gap.{Gap}
+use Rattle.osposg_cli.specs.Solve.{AnswersSolve, KeepsSolve, MakesCertificate, SolvePromises}
+use Rattle.osposg_cli.specs.Words.{gap_data}
+use Rattle.osposg_cli.specs.Answer.{Answers, AnswersInput, AsksNoSearch, Ends, InputsAreAnswered, IsDue, IsEarly, IsGiven, IsInput, IsWork, WorkIsDefined, WroteOne}
+use Rattle.osposg_cli.specs.Defined.{HasText, IsAnswered}
 use Rattle.osposg_cli.specs.Inputs.{most_input}
 use Rattle.osposg_cli.specs.Refusals.{words_refused}
-use Rattle.osposg_cli.proofs.Answered.{too-long}
+use Rattle.osposg_cli.proofs.Answered.{too_long_not}
 
 -- `map_err` keeps what is true of an `Ok`
 pub kept : {A E F : Type 0} (r : Result A E) (s : Result A F) (P : A → Type 0) (Q : E → F → Type 0) → MatchResult r (λ x. s ≡ Ok x) (λ e. IsErrAnd s (Q e)) → IfOk r P → IfOk s P
@@ -45,6 +49,7 @@ pub ends_whole : (command : Option Command) (left new : Option (List ℕ)) (room
     IsDue command left status text → Wrote room old written text → Ends command left new room old written status
 ends_whole command left new room old written Done text due wrote = (text, due, wrote)
 ends_whole command left new room old written No text due wrote = (text, due, wrote)
+ends_whole command left new room old written Open text due wrote = (text, due, wrote)
 ends_whole command left new room old written GameRefused text due wrote = (text, due, wrote)
 ends_whole command left new room old written CertRefused text due wrote = (text, due, wrote)
 ends_whole command left new room old written WordsRefused text due wrote = (text, due, wrote)
@@ -65,52 +70,50 @@ due_to command (Some left) bytes status text e due =
     subst (λ (input : List ℕ). Answers command input status text) input due.2
 
 -- ---- completeness
--- what is due was written, or the other answer stands in its place
-pub complete_whole : AnswersAreOne → (command : Option Command) (left : Option (List ℕ)) (room : ℕ) (old written : Option (List ℕ)) (bytes : List ℕ) (status other : Status) (text more : List ℕ) →
-    left ≡ Some bytes → IsDue command left status text → Wrote room old written text → Answers command bytes other more → IsGiven other more room old written status
-complete_whole once command left room old written bytes status other text more e due wrote h =
-    let same = once command bytes status other text more (due_to command left bytes status text e due) h in
-    inl (same.0, subst (Wrote room old written) same.1 wrote)
+-- what is due was written whole
+pub complete_whole : (command : Option Command) (left : Option (List ℕ)) (room : ℕ) (old written : Option (List ℕ)) (status : Status) (text : List ℕ) (calm still : Type 0) →
+    IsDue command left status text → Wrote room old written text → IfSome left (λ bytes. calm → still → IsGiven command bytes room old written status)
+complete_whole command None room old written status text calm still due wrote = tt
+complete_whole command (Some left) room old written status text calm still due wrote =
+    λ quiet well. inl (text, due_to command (Some left) left status text refl due, wrote)
 
 wrote_nothing : (room : ℕ) (old : Option (List ℕ)) → Wrote room old old []
 wrote_nothing room None = tt
 wrote_nothing room (Some before) = sym (append-nil before)
 
-abbrev is_false : Bool → Type 0
-is_false true = ⊥
-is_false false = ⊤
-
--- an input that is too long has the one answer `TooLong`
-long_answer : (command : Option Command) (bytes : List ℕ) (other : Status) (more : List ℕ) → IsSome command → most_input < length bytes → Answers command bytes other more →
-    (other ≡ TooLong) × (more ≡ [])
-long_answer None bytes other more named long h = absurd (subst is_false named tt)
-long_answer (Some command) bytes other more named long (inl (l, s, t)) = (s, t)
-long_answer (Some command) bytes other more named long (inr (few, h)) = absurd (too-long (length bytes) long few)
+-- `TooLong` answers an input that is too long
+long_answer : (command : Option Command) (bytes : List ℕ) → IsSome command → most_input < length bytes → Answers command bytes TooLong []
+long_answer None bytes e long = absurd cc
+long_answer (Some command) bytes e long = inl (long, refl, refl)
 
 -- an early end, where the source did not fail
-pub complete_early : (command : Option Command) (left new : Option (List ℕ)) (room : ℕ) (old : Option (List ℕ)) (bytes : List ℕ) (status other : Status) (more : List ℕ) →
-    left ≡ Some bytes → IsEarly command left new status → (status ≡ ReadFault → ⊥) → Answers command bytes other more → IsGiven other more room old old status
-complete_early command left new room old bytes OutOfMemory other more e early fault h = inr (refl, refl)
-complete_early command left new room old bytes ReadFault other more e early fault h = absurd (fault refl)
-complete_early command left new room old bytes TooLong other more e (named, gave) fault h =
-    let long : most_input < length bytes = (subst (λ (l : Option (List ℕ)). GaveTooMany l new most_input) e gave).0 in
-    let found = long_answer command bytes other more named long h in
-    inl (sym found.0, subst (Wrote room old old) (sym found.1) (wrote_nothing room old))
-complete_early command left new room old bytes Done other more e early fault h = absurd early
-complete_early command left new room old bytes CertRefused other more e early fault h = absurd early
-complete_early command left new room old bytes No other more e early fault h = absurd early
-complete_early command left new room old bytes GameRefused other more e early fault h = absurd early
-complete_early command left new room old bytes WordsRefused other more e early fault h = absurd early
-complete_early command left new room old bytes WriteFault other more e early fault h = absurd early
+given_early : (command : Option Command) (left : List ℕ) (new : Option (List ℕ)) (room : ℕ) (old : Option (List ℕ)) (status : Status) →
+    IsEarly command (Some left) new status → (status ≡ ReadFault → ⊥) → IsGiven command left room old old status
+given_early command left new room old OutOfMemory early fault = inr (refl, refl)
+given_early command left new room old ReadFault early fault = absurd (fault refl)
+given_early command left new room old TooLong (some, gave) fault = inl ([], long_answer command left some gave.0, wrote_nothing room old)
+given_early command left new room old Done early fault = absurd early
+given_early command left new room old No early fault = absurd early
+given_early command left new room old Open early fault = absurd early
+given_early command left new room old GameRefused early fault = absurd early
+given_early command left new room old CertRefused early fault = absurd early
+given_early command left new room old WordsRefused early fault = absurd early
+given_early command left new room old WriteFault early fault = absurd early
 
--- every input has an answer, and what is true of it
-pub complete_some : InputsAreAnswered → (command : Option Command) (left : Option (List ℕ)) (calm still : Type 0) (Given : Status → List ℕ → Type 0) →
-    ((bytes : List ℕ) (status : Status) (text : List ℕ) → left ≡ Some bytes → Answers command bytes status text → calm → still → Given status text) →
-    IfSome left (λ bytes. (status : Status) × (text : List ℕ) × Answers command bytes status text × (calm → still → Given status text))
-complete_some some command None calm still Given h = tt
-complete_some some command (Some left) calm still Given h =
-    let answer = some command left in
-    (answer.0, answer.1, answer.2, h left answer.0 answer.1 refl answer.2)
+pub complete_early : (command : Option Command) (left new : Option (List ℕ)) (room : ℕ) (old : Option (List ℕ)) (status : Status) (calm still : Type 0) →
+    IsEarly command left new status → (calm → status ≡ ReadFault → ⊥) → IfSome left (λ bytes. calm → still → IsGiven command bytes room old old status)
+complete_early command None new room old status calm still early fault = tt
+complete_early command (Some left) new room old status calm still early fault = λ quiet well. given_early command left new room old status early (fault quiet)
+
+-- an early end makes no certificate
+pub early_none : (command : Option Command) (left new : Option (List ℕ)) (status : Status) → IsEarly command left new status → MakesCertificate status → ⊥
+early_none command left new status early (inl e) = subst (IsEarly command left new) e early
+early_none command left new status early (inr e) = subst (IsEarly command left new) e early
+
+-- without a search every input has an answer
+pub answered_some : InputsAreAnswered → (command : Option Command) (left : Option (List ℕ)) → AsksNoSearch command → IfSome left (λ bytes. IsAnswered (Answers command bytes))
+answered_some some command None none = tt
+answered_some some command (Some left) none = some command none left
 
 -- ---- what Done promises
 abbrev is_done : Status → Type 0
@@ -131,6 +134,19 @@ promised P command holds named (Some left) room old written status text due wrot
     let answer = subst (λ (c : Option Command). Answers c left Done text) e (subst (λ (s : Status). Answers named left s text) done is) in
     (text, holds left text (work_done command left text answer), wrote)
 
+-- what the certificate of `solve` promises holds of what was written
+solve_work : (trials : ℕ) (gap : Gap) (input text : List ℕ) (status : Status) → Answers (Some (Solve trials gap)) input status text → MakesCertificate status → AnswersSolve trials (gap_data gap) input status text
+solve_work trials gap input text status (inl (l, s, t)) made = absurd (too_long_not status s made)
+solve_work trials gap input text status (inr (few, h)) made = h
+
+pub promised_solve : KeepsSolve → (trials : ℕ) (gap : Gap) (named : Option Command) (left : Option (List ℕ)) (room : ℕ) (old written : Option (List ℕ)) (status : Status) (text : List ℕ) →
+    IsDue named left status text → Wrote room old written text → named ≡ Some (Solve trials gap) → MakesCertificate status →
+    IfSome left (λ input. WroteOne (SolvePromises (gap_data gap) status input) room old written)
+promised_solve keeps trials gap named None room old written status text due wrote e made = tt
+promised_solve keeps trials gap named (Some left) room old written status text due wrote e made =
+    let answer = subst (λ (c : Option Command). Answers c left status text) e (due_to named (Some left) left status text refl due) in
+    (text, keeps trials (gap_data gap) left text status (solve_work trials gap left text status answer made) made, wrote)
+
 -- ---- an answer to an input is one where the words name a command
 abbrev is_refused : Status → Type 0
 is_refused WordsRefused = ⊤
@@ -140,7 +156,8 @@ not_refused : (status : Status) → AnswersInput status → status ≡ WordsRefu
 not_refused status (inl a) e = subst is_refused (sym e ∙ a) tt
 not_refused status (inr (inl a)) e = subst is_refused (sym e ∙ a) tt
 not_refused status (inr (inr (inl a))) e = subst is_refused (sym e ∙ a) tt
-not_refused status (inr (inr (inr a))) e = subst is_refused (sym e ∙ a) tt
+not_refused status (inr (inr (inr (inl a)))) e = subst is_refused (sym e ∙ a) tt
+not_refused status (inr (inr (inr (inr a)))) e = subst is_refused (sym e ∙ a) tt
 
 named_by : (command : Option Command) (input : List ℕ) (status : Status) (text : List ℕ) → Answers command input status text → (status ≡ WordsRefused → ⊥) → IsSome command
 named_by None input status text answer not = absurd (not answer.0)

@@ -9,3 +9,7 @@ pub mod BestAction
 pub mod Shared
 pub mod Verdicts
 pub mod Shown
+pub mod DigitValues
+pub mod OptionLists
+pub mod Slashes
+pub mod Solved

@@ -62,7 +62,7 @@ short-positive f h = positive f.den h.1
     positive : (x : ℤ) → pos 1 ≤ℤ x → pos 0 <ℤ x
     positive x h = omega (arith, ints)
 
-yes-some : (k : CertificateData) → IsShort k.lower → IsShort k.upper → IsShort k.tail → (text : List ℕ) × IsYesText k text
+pub yes-some : (k : CertificateData) → IsShort k.lower → IsShort k.upper → IsShort k.tail → (text : List ℕ) × IsYesText k text
 yes-some k l u t =
     let down = down-some k.lower.num k.lower.den (short-positive k.lower l) in
     let up = up-some k.upper.num k.upper.den (short-positive k.upper u) in
@@ -91,7 +91,7 @@ is_open Closed = ⊥
 is_open Trials = ⊤
 is_open Full = ⊤
 
-proved : LowerHolds → UpperHolds → (g : GameData) (k : CertificateData) → IsGame g → CertificateStands g k → Proves g k
+pub proved : LowerHolds → UpperHolds → (g : GameData) (k : CertificateData) → IsGame g → CertificateStands g k → Proves g k
 proved low high g k game stands =
     let keeps = keeps-span g game in
     record {

@@ -1,20 +1,24 @@
 -- What the command and the input define, and how a run ends.
-use Rattle.std.specs.Prelude.{◌≡◌, ◌⊎◌, ℕ, ◌+◌, ◌<◌, ◌≤◌, List, [], length, Option, Some, None, IsSome, ⊤}
+use Rattle.std.specs.Prelude.{◌≡◌, ◌⊎◌, ℕ, ◌+◌, ◌<◌, ◌≤◌, List, [], ◌++◌, length, Option, Some, None, IsSome, ⊤}
 use Rattle.hsvi_io.specs.Bytes.{GaveFront, GaveTooMany, Wrote, WroteFront}
 use Rattle.osposg_cli.specs.declared.status.Status.{Status}
-use Rattle.osposg_cli.specs.declared.status.Status.TheVariants.{Done, No, GameRefused, CertRefused, WordsRefused, ReadFault, WriteFault, OutOfMemory, TooLong}
+use Rattle.osposg_cli.specs.declared.status.Status.TheVariants.{Done, No, Open, GameRefused, CertRefused, WordsRefused, ReadFault, WriteFault, OutOfMemory, TooLong}
 use Rattle.osposg_cli.specs.declared.words.Command.{Command}
-use Rattle.osposg_cli.specs.declared.words.Command.TheVariants.{Check, Floor, Show}
+use Rattle.osposg_cli.specs.declared.words.Gap.{Gap}
+use Rattle.osposg_cli.specs.declared.words.Command.TheVariants.{Check, Floor, Show, Solve}
 use Rattle.osposg_cli.specs.Check.{AnswersCheck}
 use Rattle.osposg_cli.specs.Defined.{AreAnswered, HasText, IsDefined, IsOne}
 use Rattle.osposg_cli.specs.Floor.{AnswersFloor}
 use Rattle.osposg_cli.specs.Inputs.{most_input}
 use Rattle.osposg_cli.specs.Refusals.{words_refused}
 use Rattle.osposg_cli.specs.Show.{AnswersShow}
+use Rattle.osposg_cli.specs.Solve.{AnswersSolve, MakesCertificate}
+use Rattle.osposg_cli.specs.Words.{gap_data}
 
 -- what a command answers to an input that is not too long
 abbrev pub IsWork : Command → List ℕ → Status → List ℕ → Type 0
 IsWork Floor input status text = AnswersFloor input status text
+IsWork (Solve trials gap) input status text = AnswersSolve trials (gap_data gap) input status text
 IsWork Check input status text = AnswersCheck input status text
 IsWork Show input status text = AnswersShow input status text
 
@@ -44,7 +48,7 @@ IsReadToEnd (Some input) new = new ≡ Some []
 
 -- these statuses answer an input
 abbrev pub AnswersInput : Status → Type 0
-AnswersInput status = (status ≡ Done) ⊎ (status ≡ No) ⊎ (status ≡ GameRefused) ⊎ (status ≡ CertRefused)
+AnswersInput status = (status ≡ Done) ⊎ (status ≡ No) ⊎ (status ≡ Open) ⊎ (status ≡ GameRefused) ⊎ (status ≡ CertRefused)
 
 -- at these ends nothing is written
 abbrev pub WritesNothing : Status → Type 0
@@ -54,9 +58,20 @@ WritesNothing status = (status ≡ ReadFault) ⊎ (status ≡ TooLong) ⊎ (stat
 abbrev pub AnswersAreOne : Type 0
 AnswersAreOne = (command : Option Command) (input : List ℕ) → IsOne (Answers command input)
 
--- there is an answer to each input
+-- the words ask for no search
+abbrev pub AsksNoSearch : Option Command → Type 0
+AsksNoSearch (Some (Solve trials gap)) = ⊥
+AsksNoSearch command = ⊤
+
+-- Without a search there is an answer to each input. That a search comes to an end is shown by the run that makes it.
 abbrev pub InputsAreAnswered : Type 0
-InputsAreAnswered = (command : Option Command) → AreAnswered (Answers command)
+InputsAreAnswered = (command : Option Command) → AsksNoSearch command → AreAnswered (Answers command)
+
+-- to an input and the certificate text that `solve` wrote for it, at once after it, `check` answers yes
+abbrev pub SolvedIsChecked : Type 0
+SolvedIsChecked =
+    (trials : ℕ) (gap : Gap) (input text : List ℕ) (status : Status) → Answers (Some (Solve trials gap)) input status text →
+    MakesCertificate status → length (input ++ text) ≤ most_input → (yes : List ℕ) × Answers (Some Check) (input ++ text) Done yes
 
 -- how a run ends before there is a text
 abbrev pub IsEarly : Option Command → Option (List ℕ) → Option (List ℕ) → Status → Type 0
@@ -74,9 +89,10 @@ Ends command left left_new room old new OutOfMemory = new ≡ old
 Ends command left left_new room old new WriteFault = (status : Status) × (text : List ℕ) × IsDue command left status text × WroteFront room old new text
 Ends command left left_new room old new status = (text : List ℕ) × IsDue command left status text × Wrote room old new text
 
--- the answer was given and written whole, or memory was wanting and nothing was written
-abbrev pub IsGiven : Status → List ℕ → ℕ → Option (List ℕ) → Option (List ℕ) → Status → Type 0
-IsGiven status text room old new result = ((result ≡ status) × Wrote room old new text) ⊎ ((result ≡ OutOfMemory) × (new ≡ old))
+-- the answer to the input was written whole, or memory was wanting and nothing was written
+abbrev pub IsGiven : Option Command → List ℕ → ℕ → Option (List ℕ) → Option (List ℕ) → Status → Type 0
+IsGiven command input room old new result =
+    ((text : List ℕ) × Answers command input result text × Wrote room old new text) ⊎ ((result ≡ OutOfMemory) × (new ≡ old))
 
 -- a text of which this is true was written whole
 abbrev pub WroteOne : (List ℕ → Type 0) → ℕ → Option (List ℕ) → Option (List ℕ) → Type 0

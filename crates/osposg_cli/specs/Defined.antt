@@ -1,12 +1,13 @@
 -- When the answer of a command is defined.
 use Rattle.std.specs.Prelude.{◌≡◌, ℕ, List, ⊤}
 use Rattle.osposg_cli.specs.declared.status.Status.{Status}
-use Rattle.osposg_cli.specs.declared.status.Status.TheVariants.{Done, No, GameRefused, CertRefused, WordsRefused}
+use Rattle.osposg_cli.specs.declared.status.Status.TheVariants.{Done, No, Open, GameRefused, CertRefused, WordsRefused}
 
 -- an answer of this status has a text
 abbrev pub HasText : Status → Type 0
 HasText Done = ⊤
 HasText No = ⊤
+HasText Open = ⊤
 HasText CertRefused = ⊤
 HasText GameRefused = ⊤
 HasText WordsRefused = ⊤

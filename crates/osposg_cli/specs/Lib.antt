@@ -7,3 +7,5 @@ pub mod Check
 pub mod Answer
 pub mod Codes
 pub mod Show
+pub mod Options
+pub mod Solve

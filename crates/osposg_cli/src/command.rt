@@ -1,14 +1,18 @@
 //! The top call: the words, the input, the work of the command, the text.
 ghost use Rattle.hsvi_io.specs.Bytes.{Wrote};
 ghost use Rattle.hsvi_io.specs.Causes.{Rose};
-ghost use Rattle.osposg_cli.specs.Answer.{Answers, AnswersAreOne, AnswersInput, Ends, InputsAreAnswered, IsDue, IsEarly, IsGiven};
-ghost use Rattle.osposg_cli.specs.Answer.{IsReadToEnd, IsUntouched, IsWork, WorkIsDefined, WritesNothing, WroteOne};
+ghost use Rattle.osposg_cli.specs.Answer.{Answers, AnswersAreOne, AnswersInput, AsksNoSearch, Ends, InputsAreAnswered, IsDue};
+ghost use Rattle.osposg_cli.specs.Answer.{IsEarly, IsGiven, IsReadToEnd, IsUntouched, IsWork, SolvedIsChecked};
+ghost use Rattle.osposg_cli.specs.Answer.{WorkIsDefined, WritesNothing, WroteOne};
 ghost use Rattle.osposg_cli.specs.Check.{CheckPromises};
+ghost use Rattle.osposg_cli.specs.Defined.{IsAnswered};
 ghost use Rattle.osposg_cli.specs.Floor.{FloorPromises};
 ghost use Rattle.osposg_cli.specs.Inputs.{most_input};
 ghost use Rattle.osposg_cli.specs.Show.{ShowPromises};
-ghost use Rattle.osposg_cli.specs.Words.{named};
-ghost use Rattle.osposg_cli.specs.declared.words.Command.TheVariants.{Check, Floor, Show};
+ghost use Rattle.osposg_cli.specs.Solve.{MakesCertificate, SolvePromises};
+ghost use Rattle.osposg_cli.specs.Words.{IsWithinLimits, gap_data, named};
+ghost use Rattle.osposg_cli.specs.declared.words.Gap.{Gap};
+ghost use Rattle.osposg_cli.specs.declared.words.Command.TheVariants.{Check, Floor, Show, Solve};
 ghost use Rattle.std.specs.Prelude.{IfErr, IfOk, IfSome, IsErrOf, IsSome, List, None, OnOk, Some, ℕ, length, ◌≡◌, ◌≤◌};
 
 use crate::answer::Answer;
@@ -16,7 +20,7 @@ use crate::inputs::MOST_INPUT;
 use crate::refusals::words_refused;
 use crate::status::Status;
 use crate::words::{Command, parse};
-use crate::{check, floor, show};
+use crate::{check, floor, show, solve};
 use hsvi_io::{ReadEnd, Sink, Source, read_all, write_all};
 use std::alloc::{AllocError, Global};
 
@@ -44,12 +48,14 @@ pub fn run<I: Source, O: Sink>(
     // Where the words name no command, the source is untouched.
     ensures unread { named words.now ≡ None →
         IsUntouched (I.left input.old) (I.left input.new) (I.faults input.old) (I.faults input.new) }
-    // Every input has an answer. Where no count rose, it is given and written whole; only want of memory may come in its
-    // place, and then nothing is written.
+    // Where no count rose, the answer to the input was written whole; only want of memory may come in its place, and then
+    // nothing is written.
     ensures complete { IfSome (I.left input.old) (λ bytes.
-        (status : Status) × (text : List ℕ) × Answers (named words.now) bytes status text
-        × (¬ (Rose (I.faults input.old) (I.faults input.new)) → ¬ (Rose (O.faults output.old) (O.faults output.new))
-        → IsGiven status text (O.room output.old) (O.written output.old) (O.written output.new) result)) }
+        ¬ (Rose (I.faults input.old) (I.faults input.new)) → ¬ (Rose (O.faults output.old) (O.faults output.new)) →
+        IsGiven (named words.now) bytes (O.room output.old) (O.written output.old) (O.written output.new) result) }
+    // Where no search is asked for, every input has an answer.
+    ensures answered { AsksNoSearch (named words.now) →
+        IfSome (I.left input.old) (λ bytes. IsAnswered (Answers (named words.now) bytes)) }
     // What `floor` promises: the printed action earns the printed bound less the tail, against every plan of the informed
     // player.
     ensures floor_earns { result ≡ Status.Done → named words.now ≡ Some Floor → IfSome (I.left input.old)
@@ -61,9 +67,15 @@ pub fn run<I: Source, O: Sink>(
     // What `show` promises: the text that is written spells the game that was read, and is shown as it is.
     ensures show_spells { result ≡ Status.Done → named words.now ≡ Some Show → IfSome (I.left input.old)
         (λ bytes. WroteOne (ShowPromises bytes) (O.room output.old) (O.written output.old) (O.written output.new)) }
+    // What the certificate of `solve` promises: it is for the game that was read, has the tolerance of the words, is closed
+    // exactly at Done, and both halves hold of it.
+    ensures solve_proves { (trials : ℕ) (gap : Gap) → named words.now ≡ Some (Solve trials gap) →
+        MakesCertificate result → IfSome (I.left input.old) (λ bytes. WroteOne (SolvePromises (gap_data gap) result bytes)
+        (O.room output.old) (O.written output.old) (O.written output.new)) }
 {
     law_answers();
     floor::law_floor();
+    solve::law_solve();
     check::law_check();
     show::law_show();
     match answer_to(alloc, words, input) {
@@ -75,13 +87,17 @@ pub fn run<I: Source, O: Sink>(
     }
 }
 
-/// A law: the answer of each command is defined, so an input has one answer; and it has one.
+/// A law: the answer of each command is defined, so an input has one answer at most; without a search it has one. To what
+/// `solve` wrote for a game, behind the game's text, `check` answers yes.
 pub fn law_answers()
     ensures work { WorkIsDefined }
     ensures one { AnswersAreOne }
     ensures some { InputsAreAnswered }
+    ensures checked { SolvedIsChecked }
 {
+    game_text::law_any_rest();
     floor::law_floor();
+    solve::law_solve();
     check::law_check();
     show::law_show();
 }
@@ -97,8 +113,10 @@ fn answer_to<I: Source>(alloc: Global, words: &[String], input: &mut I) -> Resul
         IsUntouched (I.left input.old) (I.left input.new) (I.faults input.old) (I.faults input.new) }
 {
     law_answers();
-    let Some(command) = parse(words) else {
-        return words_refused(alloc).map_err(|_| Status::OutOfMemory);
+    let command = match parse(alloc, words) {
+        Ok(Some(command)) => command,
+        Ok(None) => return words_refused(alloc).map_err(|_| Status::OutOfMemory),
+        Err(_) => return Err(Status::OutOfMemory),
     };
     match read_all(alloc, input, MOST_INPUT) {
         Ok(bytes) => work(alloc, command, &bytes).map_err(|_| Status::OutOfMemory),
@@ -110,11 +128,13 @@ fn answer_to<I: Source>(alloc: Global, words: &[String], input: &mut I) -> Resul
 
 /// The answer of a command to its input.
 fn work(alloc: Global, command: Command, bytes: &[u8]) -> Result<Answer, AllocError>
-    requires { length bytes.now ≤ most_input }
+    requires bytes { length bytes.now ≤ most_input }
+    requires command { IsWithinLimits command }
     ensures { IfOk result (λ answer. IsWork command bytes.now answer.status answer.text.items) }
 {
     match command {
         Command::Floor => floor::work(alloc, bytes),
+        Command::Solve { trials, gap } => solve::work(alloc, trials, &gap.fraction(), bytes),
         Command::Check => check::work(alloc, bytes),
         Command::Show => show::work(alloc, bytes),
     }

@@ -7,13 +7,19 @@ mod check;
 mod command;
 mod floor;
 mod inputs;
+mod options;
 mod refusals;
 mod show;
+mod solve;
+#[cfg(test)]
+mod solve_tests;
 #[cfg(test)]
 mod start_tests;
 mod status;
 #[cfg(test)]
 mod tests;
+#[cfg(test)]
+mod word_tests;
 mod words;
 
 pub use command::run;

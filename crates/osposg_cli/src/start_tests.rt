@@ -5,7 +5,7 @@ use std::alloc::Global;
 use std::test::Fail;
 
 /// Two states, one of which player one guesses each time.
-const GUESS_THE_STATE: [&str; 14] = [
+pub const GUESS_THE_STATE: [&str; 14] = [
     "osposg 1",
     "size 2 2 1 1",
     "total 1",

@@ -9,6 +9,8 @@ pub enum Status {
     Done,
     /// The certificate does not stand; the first place that fails was written.
     No,
+    /// The certificate that a search made was written, and its bounds are not within the tolerance.
+    Open,
     /// The game text is refused; the line and the kind were written.
     GameRefused,
     /// The certificate text is refused; the line and the kind were written.
@@ -33,6 +35,7 @@ impl Status {
         match self {
             Status::Done => 0,
             Status::No => 1,
+            Status::Open => 2,
             Status::GameRefused => 3,
             Status::CertRefused => 4,
             Status::WordsRefused => 5,

@@ -5,7 +5,7 @@ use std::alloc::Global;
 use std::test::Fail;
 
 /// One state, a reward of 5 each time, no future.
-const FIVE_EACH_TIME: [&str; 8] = [
+pub const FIVE_EACH_TIME: [&str; 8] = [
     "osposg 1",
     "size 1 1 1 1",
     "total 1",
@@ -17,7 +17,7 @@ const FIVE_EACH_TIME: [&str; 8] = [
 ];
 
 /// One state, a reward of 3 each stage, discount 1/2.
-const THREE_HALVED: [&str; 8] = [
+pub const THREE_HALVED: [&str; 8] = [
     "osposg 1",
     "size 1 1 1 1",
     "total 1",
@@ -51,7 +51,7 @@ const THREE_CERTIFICATE: [&str; 18] = [
 ];
 
 /// Matching pennies in one state, without a future.
-const PENNIES: [&str; 14] = [
+pub const PENNIES: [&str; 14] = [
     "osposg 1",
     "size 1 2 2 1",
     "total 1",
@@ -69,7 +69,7 @@ const PENNIES: [&str; 14] = [
 ];
 
 /// A certificate that closes its gap, by even mixes of both players.
-const PENNIES_CERTIFICATE: [&str; 30] = [
+pub const PENNIES_CERTIFICATE: [&str; 30] = [
     "certificate 1",
     "outcome closed",
     "gap 1/100",
@@ -141,7 +141,7 @@ pub fn joined(alloc: Global, game: &str, certificate: &str) -> Result<String, Fa
 }
 
 /// The words of a command line.
-fn words(alloc: Global, texts: &[&str]) -> Result<Vec<String>, Fail> {
+pub fn words(alloc: Global, texts: &[&str]) -> Result<Vec<String>, Fail> {
     let mut words = Vec::new(alloc);
     for text in texts {
         words.push(String::from_str(alloc, text)?)?;

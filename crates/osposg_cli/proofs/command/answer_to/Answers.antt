@@ -4,13 +4,16 @@ use Rattle.osposg_cli.specs.Answer.{IsWork}
 use Rattle.osposg_cli.proofs.Due.{due_refused, due_work, kept}
 use Rattle.osposg_cli.proofs.command.answer_to.Goals as goal
 
-pub returns-in_default-clause-due : goal.returns-in_default-clause-due
-returns-in_default-clause-due g c =
+pub returns-in-Ok-None-clause-due : goal.returns-in-Ok-None-clause-due
+returns-in-Ok-None-clause-due g c =
     kept c.words_refused.result c.map_err.result _ _ c.map_err.ensures.cases
-    (IfOk-weaker c.words_refused.result _ _ (λ answer h. due_refused _ _ _ _ (search rules) h.0 h.1) c.words_refused.ensures)
+    (IfOk-weaker c.words_refused.result _ _ (λ answer h.
+    due_refused _ _ _ _ (sym c.in-Ok-None.ensures.command ∙ c.in-Ok-None.field-0-is) h.0 h.1) c.words_refused.ensures)
 
 pub returns-in-Ok-clause-due : goal.returns-in-Ok-clause-due
 returns-in-Ok-clause-due g c =
     kept c.work.result c.map_err-in-Ok.result _ _ c.map_err-in-Ok.ensures.cases
-    (IfOk-weaker c.work.result _ _ (λ answer h. due_work c.law_answers.ensures.work _ _ _ _ c.in-Ok.bytes.items answer.status answer.text.items (sym c.parse.ensures ∙ c.in-Some.is) c.in-Ok.ensures.whole c.in-Ok.ensures.within
-    (subst (λ (input : List ℕ). IsWork c.in-Some.command input answer.status answer.text.items) c.deref.ensures.value h)) c.work.ensures)
+    (IfOk-weaker c.work.result _ _ (λ answer h.
+    due_work c.law_answers.ensures.work _ _ _ _ c.in-Ok.bytes.items answer.status answer.text.items
+    (sym c.in-Ok-Some.ensures.command ∙ c.in-Ok-Some.field-0-is) c.in-Ok.ensures.whole c.in-Ok.ensures.within
+    (subst (λ (input : List ℕ). IsWork c.in-Ok-Some.command input answer.status answer.text.items) c.deref.ensures.value h)) c.work.ensures)

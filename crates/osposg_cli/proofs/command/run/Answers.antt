@@ -1,5 +1,5 @@
 use Rattle.std.proofs.Common.{rules}
-use Rattle.osposg_cli.proofs.Due.{complete_early, complete_some, complete_whole, ends_whole, promised, read_end}
+use Rattle.osposg_cli.proofs.Due.{complete_early, complete_whole, ends_whole, promised, promised_solve, read_end}
 use Rattle.osposg_cli.specs.declared.words.Command.TheVariants.{Check, Floor, Show}
 use Rattle.osposg_cli.specs.Check.{CheckPromises}
 use Rattle.osposg_cli.specs.Floor.{FloorPromises}
@@ -10,14 +10,10 @@ pub returns-in-Ok-write_all-clause-ends : goal.returns-in-Ok-write_all-clause-en
 returns-in-Ok-write_all-clause-ends g c = ends_whole _ _ _ _ _ _ _ _ c.in-Ok.ensures.due (search rules)
 
 pub returns-in-Ok-write_all-clause-complete : goal.returns-in-Ok-write_all-clause-complete
-returns-in-Ok-write_all-clause-complete g c =
-    complete_some c.law_answers.ensures.some _ _ _ _ _ (λ bytes status text e answers calm still.
-    complete_whole c.law_answers.ensures.one _ _ _ _ _ bytes _ status _ text e c.in-Ok.ensures.due (search rules) answers)
+returns-in-Ok-write_all-clause-complete g c = complete_whole _ _ _ _ _ _ _ _ _ c.in-Ok.ensures.due (search rules)
 
 pub returns-clause-complete : goal.returns-clause-complete
-returns-clause-complete g c =
-    complete_some c.law_answers.ensures.some _ _ _ _ _ (λ bytes status text e answers calm still.
-    complete_early _ _ _ _ _ bytes _ status text e c.in-Err.ensures.early (search rules) answers)
+returns-clause-complete g c = complete_early _ _ _ _ _ _ _ _ c.in-Err.ensures.early (λ calm. search rules)
 
 pub returns-in-Ok-write_all-clause-read : goal.returns-in-Ok-write_all-clause-read
 returns-in-Ok-write_all-clause-read g c = λ one. c.in-Ok.ensures.read (read_end _ _ _ _ c.in-Ok.ensures.due one)
@@ -30,3 +26,7 @@ returns-in-Ok-write_all-clause-check_proves g c = promised CheckPromises Check c
 
 pub returns-in-Ok-write_all-clause-show_spells : goal.returns-in-Ok-write_all-clause-show_spells
 returns-in-Ok-write_all-clause-show_spells g c = promised ShowPromises Show c.law_show.ensures.keeps _ _ _ _ _ _ _ c.in-Ok.ensures.due (search rules)
+
+pub returns-in-Ok-write_all-clause-solve_proves : goal.returns-in-Ok-write_all-clause-solve_proves
+returns-in-Ok-write_all-clause-solve_proves g c =
+    λ trials gap e made. promised_solve c.law_solve.ensures.keeps trials gap _ _ _ _ _ _ _ c.in-Ok.ensures.due (search rules) e made
