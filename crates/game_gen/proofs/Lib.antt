@@ -1,0 +1,5 @@
+pub mod Drawing
+pub mod Places
+pub mod LastRows
+pub mod Ones
+pub mod Games
