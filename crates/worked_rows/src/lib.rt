@@ -14,6 +14,8 @@ mod ends;
 #[cfg(test)]
 mod games;
 #[cfg(test)]
+mod generated;
+#[cfg(test)]
 mod nodes;
 #[cfg(test)]
 mod numbers;
