@@ -3,3 +3,4 @@ pub mod Places
 pub mod LastRows
 pub mod Ones
 pub mod Games
+pub mod Weights

@@ -36,6 +36,6 @@ game_drawn shape first g n = record {
   rows = rows_drawn shape g n;
 }
 
--- the game of a number and a size: its triples draw from the number one after another, and each first state is as likely
+-- the game of a number and a size: the triples draw one after another, and each first state is as likely as another
 abbrev pub game_of : ℕ → ℕ → GameData
 game_of number size = game_drawn (shape_of size) (replicate size (pos 1)) (seeded number) (triples (shape_of size))

@@ -37,7 +37,7 @@ row_of shape pairs = flat_map (λ o. flat_map (λ t. landing_if_drawn pairs o t)
 abbrev pub row_drawn : Shape → Lcg → List Landing
 row_drawn shape g = row_of shape (pairs_from shape g 1)
 
--- a shape whose rows hold four times 25
+-- a shape whose rows hold four pairs of 25 each
 pub record Serves (shape : Shape) : Type 0 where
   pub limits : IsShape shape
   pub total : shape.row_total ≡ pos 100

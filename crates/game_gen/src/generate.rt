@@ -1,12 +1,13 @@
 //! The game of a number and a size.
 
 ghost use Rattle.game_gen.specs.Generated.{game_drawn, game_of, shape_of};
-ghost use Rattle.game_gen.specs.Rows.{Serves};
+ghost use Rattle.game_gen.specs.Rows.{Serves, row_of, times};
 ghost use Rattle.game_model.specs.Build.{HasRoom, IsLastRowFull};
-ghost use Rattle.game_model.specs.Game.{IsGame, triples};
+ghost use Rattle.game_model.specs.Game.{IsGame, triples, weight_in};
+ghost use Rattle.game_model.specs.declared.parts.Shape.{Shape};
 ghost use Rattle.game_model.specs.declared.builder.GameFault.TheVariants as faults;
 ghost use Rattle.rand_pcg.specs.Lcg.{Lcg};
-ghost use Rattle.std.specs.Prelude.{IfErr, IfOk, OnOk, pos, replicate, ℕ, ◌≡◌, ◌≤◌};
+ghost use Rattle.std.specs.Prelude.{IfErr, IfOk, List, OnOk, pos, replicate, ℕ, ◌*◌, ◌<◌, ◌≡◌, ◌≤◌};
 
 use crate::rows::add_row;
 use game_model::{Game, GameBuilder, GameFault, MOST_STATES, Shape, law_game};
@@ -33,12 +34,15 @@ pub fn make(alloc: Global, number: u64, size: u32) -> Result<Game, AllocError>
     }
 }
 
-/// A law: the game of a number and a size keeps every limit of games.
+/// A law: the game of a number and a size keeps every limit of games. In the row of drawn pairs a pair weighs 25 for
+/// each time that it was drawn.
 pub fn law_made()
-    ensures { (number size : ℕ) → 1 ≤ size → size ≤ 16 → IsGame (game_of number size) }
+    ensures limits { (number size : ℕ) → 1 ≤ size → size ≤ 16 → IsGame (game_of number size) }
+    ensures weights { (shape : Shape) (pairs : List (ℕ × ℕ)) (o t : ℕ) → o < shape.observations → t < shape.states →
+        weight_in (row_of shape pairs) o t ≡ 25 * times pairs o t }
 {}
 
-/// The game of a number and a size, of a builder that refuses nothing.
+/// The game of a number and a size. The builder refuses nothing of it, so only memory can be wanting.
 fn build(alloc: Global, number: u64, size: u32) -> Result<Game, GameFault>
     requires least { 1 ≤ size }
     requires most { size ≤ 16 }
@@ -104,7 +108,7 @@ fn add_rows(builder: &mut GameBuilder, draw: &mut Draw, shape: &Shape) -> Result
     Ok(())
 }
 
-/// The want of memory of a builder that refuses nothing.
+/// The builder's want of memory, as callers are told of it.
 fn want_of_memory(fault: GameFault) -> AllocError
     requires { fault ≡ faults.OutOfMemory }
 {

@@ -75,7 +75,8 @@ fn draw_pair(draw: &mut Draw, shape: &Shape) -> (u32, u32)
     (seen, to)
 }
 
-/// Adds the landings of the drawn pairs, by rising observation and next state.
+/// Adds the landings of the drawn pairs, by rising observation and next state: all possible pairs in their order have
+/// the places from 0 on.
 fn add_landings(
     builder: &mut GameBuilder,
     shape: &Shape,

@@ -1,4 +1,4 @@
-//! Draws from a seed, and games from a number and a size. The wanted numbers were made by `bench/generated/make-game.py`.
+//! Draws from a seed, and games from a number and a size. `bench/generated/make-game.py` made the wanted numbers and texts.
 
 use game_gen::make;
 use game_text::print;
