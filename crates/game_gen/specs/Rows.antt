@@ -19,7 +19,8 @@ pair_at shape g k = (draw_at g k shape.observations, draw_at g (k + 1) shape.sta
 
 -- four pairs, drawn after k other draws
 abbrev pub pairs_from : Shape → Lcg → ℕ → List (ℕ × ℕ)
-pairs_from shape g k = pair_at shape g k ∷ pair_at shape g (k + 2) ∷ pair_at shape g (k + 4) ∷ pair_at shape g (k + 6) ∷ []
+pairs_from shape g k =
+    pair_at shape g k ∷ pair_at shape g (k + 2) ∷ pair_at shape g (k + 4) ∷ pair_at shape g (k + 6) ∷ []
 
 -- how often a pair was drawn
 abbrev pub times : List (ℕ × ℕ) → ℕ → ℕ → ℕ
@@ -31,7 +32,8 @@ landing_if_drawn pairs o t = if times pairs o t == 0 then [] else landing_of o t
 
 -- the row of drawn pairs: their landings by rising observation and next state
 unfoldable pub row_of : Shape → List (ℕ × ℕ) → List Landing
-row_of shape pairs = flat_map (λ o. flat_map (λ t. landing_if_drawn pairs o t) (below shape.states)) (below shape.observations)
+row_of shape pairs =
+    flat_map (λ o. flat_map (λ t. landing_if_drawn pairs o t) (below shape.states)) (below shape.observations)
 
 -- a triple has nine draws: one for its reward, and two for each of four pairs
 abbrev pub row_drawn : Shape → Lcg → List Landing

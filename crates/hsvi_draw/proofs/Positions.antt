@@ -14,8 +14,10 @@ state_after-state_after w m p (suc k) n s =
     let one_more : suc (k + n) ≡ suc k + n = omega arith in
     state_after-state_after w m p k n (next_state w m p s) ∙ ap (λ (i : ℕ). state_after w m p i s) one_more
 
-advance-advance : (k n : ℕ) (g : Lcg) → advance 128 multiplier_128 n (advance 128 multiplier_128 k g) ≡ advance 128 multiplier_128 (k + n) g
-advance-advance k n g = ap (λ (s : ℕ). record g { state = s }) (state_after-state_after 128 multiplier_128 g.increment k n g.state)
+advance-advance : (k n : ℕ) (g : Lcg)
+    → advance 128 multiplier_128 n (advance 128 multiplier_128 k g) ≡ advance 128 multiplier_128 (k + n) g
+advance-advance k n g =
+    ap (λ (s : ℕ). record g { state = s }) (state_after-state_after 128 multiplier_128 g.increment k n g.state)
 
 -- no draws leave a generator as it is
 pub after_draws-zero : (g : Lcg) → after_draws 0 g ≡ g
@@ -37,11 +39,13 @@ unfolding number_at
 number_at-after_draws k n g =
     let high : 2 * k + 2 * n ≡ 2 * (k + n) = omega arith in
     let low : 2 * k + (2 * n + 1) ≡ 2 * (k + n) + 1 = omega arith in
-    ap (λ (w : ℕ). w * 2 ^ 64 + word_at (after_draws k g) (2 * n + 1)) (word_at-after_draws k (2 * n) g ∙ ap (word_at g) high)
+    ap (λ (w : ℕ). w * 2 ^ 64 + word_at (after_draws k g) (2 * n + 1))
+    (word_at-after_draws k (2 * n) g ∙ ap (word_at g) high)
     ∙ ap (λ (w : ℕ). word_at g (2 * (k + n)) * 2 ^ 64 + w) (word_at-after_draws k (2 * n + 1) g ∙ ap (word_at g) low)
 
 -- the number of two words, one after the other
-pub number_at-zero : (g h k : Lcg) (high low : ℕ) → (high, h) ≡ pcg64 g → (low, k) ≡ pcg64 h → number_at g 0 ≡ high * 2 ^ 64 + low
+pub number_at-zero : (g h k : Lcg) (high low : ℕ) → (high, h) ≡ pcg64 g → (low, k) ≡ pcg64 h
+    → number_at g 0 ≡ high * 2 ^ 64 + low
 unfolding number_at word_at state_after
 number_at-zero g h k high low first second =
     let same : (pcg64 g).1 ≡ h = sym (ap (λ (p : ℕ × Lcg). p.1) first) in

@@ -1,4 +1,6 @@
-//! Draws from a seed, and games from a number and a size. `bench/generated/make-game.py` made the wanted numbers and texts.
+//! Draws from a seed, and games from a number and a size.
+//!
+//! `bench/generated/make-game.py` made the wanted numbers and texts.
 
 use game_gen::make;
 use game_text::print;
