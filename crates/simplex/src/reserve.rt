@@ -82,6 +82,16 @@ pub fn set_length(list: &mut Vec<u32>, len: usize)
     prove!(done.is_ok());
 }
 
+/// Gives the words this width within their memory.
+pub fn set_words(words: &mut Vec<i64>, width: usize)
+    requires { width ≤ vec_capacity words.old }
+    ensures width { length words.new.items ≡ width }
+    ensures room { vec_capacity words.old ≤ vec_capacity words.new }
+{
+    let done = words.resize(width, 0);
+    prove!(done.is_ok());
+}
+
 /// Gives the row this width within its memory.
 fn set_width(row: &mut Vec<i128>, width: usize)
     requires { width ≤ vec_capacity row.old }

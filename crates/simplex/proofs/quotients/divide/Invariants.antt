@@ -2,4 +2,4 @@ use Rattle.simplex.specs.Elimination.{AreQuotients}
 use Rattle.simplex.proofs.quotients.divide.Given as goal
 
 abbrev pub invariant-loop-column : goal.invariant-loop-column
-invariant-loop-column l = AreQuotients l.row l.pivot l.place l.by.value l.column l.new
+invariant-loop-column l = AreQuotients l.lead l.part l.row l.words l.by l.column l.new

@@ -3,7 +3,7 @@ use Rattle.std.specs.Int.{w128}
 use Rattle.std.specs.Vec.{with_items}
 use Rattle.std.proofs.lemmas.List.{get_or_read, with_items_is}
 use Rattle.simplex.specs.Program.{at, AllNarrow}
-use Rattle.simplex.specs.Elimination.{IsMost, IsMade, IsMadeWide}
+use Rattle.simplex.specs.Elimination.{ArePivotWords, IsMade, IsMadeWide}
 use Rattle.simplex.specs.Tableau.{list_at}
 use Rattle.simplex.proofs.Rows.{read_shared, read_row, hold_set}
 use Rattle.simplex.proofs.Exchange.{made_more, made_skip, wide_set, found_wide}
@@ -61,21 +61,31 @@ next_row-requires-clause-pivot c =
     let pivot : c.deref-then-index-ne0-2.result.now ≡ list_at c.args.rows.now c.args.leave = read_shared c.args.rows.now c.args.leave _ c.deref-then-index-ne0-2.result.now c.requires.leave c.deref-then-index-ne0-2.ensures.value c.index-rows-leave-then-index-ne0.is in
     subst AllNarrow (sym pivot) (c.requires.narrow c.args.leave c.requires.leave)
 
-pub greatest-most-requires-clause-width : goal.greatest-most-requires-clause-width
-greatest-most-requires-clause-width c =
+pub fill_words-requires-clause-width : goal.fill_words-requires-clause-width
+fill_words-requires-clause-width c =
     let pivot : c.deref.result.now ≡ list_at c.args.rows.now c.args.leave = read_shared c.args.rows.now c.args.leave _ c.deref.result.now c.requires.leave c.deref.ensures.value c.index-rows-leave.is in
     subst (λ (r : List ℤ). length r < 2 ^ 32) (sym pivot) c.requires.width
 
-pub greatest-most-requires-clause-row : goal.greatest-most-requires-clause-row
-greatest-most-requires-clause-row c =
+pub fill_words-requires-clause-pivot : goal.fill_words-requires-clause-pivot
+fill_words-requires-clause-pivot c =
     let pivot : c.deref.result.now ≡ list_at c.args.rows.now c.args.leave = read_shared c.args.rows.now c.args.leave _ c.deref.result.now c.requires.leave c.deref.ensures.value c.index-rows-leave.is in
     subst AllNarrow (sym pivot) (c.requires.narrow c.args.leave c.requires.leave)
 
-pub next_row-requires-clause-most : goal.next_row-requires-clause-most
-next_row-requires-clause-most c =
+pub fill_words-requires-clause-place : goal.fill_words-requires-clause-place
+fill_words-requires-clause-place c =
+    let pivot : c.deref.result.now ≡ list_at c.args.rows.now c.args.leave = read_shared c.args.rows.now c.args.leave _ c.deref.result.now c.requires.leave c.deref.ensures.value c.index-rows-leave.is in
+    subst (λ (r : List ℤ). c.args.place + 2 < length r) (sym pivot) c.requires.place
+
+pub fill_words-requires-clause-room : goal.fill_words-requires-clause-room
+fill_words-requires-clause-room c =
+    let pivot : c.deref.result.now ≡ list_at c.args.rows.now c.args.leave = read_shared c.args.rows.now c.args.leave _ c.deref.result.now c.requires.leave c.deref.ensures.value c.index-rows-leave.is in
+    c.requires.words ∙ sym (ap length pivot)
+
+pub next_row-requires-clause-words : goal.next_row-requires-clause-words
+next_row-requires-clause-words c =
     let first : c.deref.result.now ≡ list_at c.args.rows.now c.args.leave = read_shared c.args.rows.now c.args.leave _ c.deref.result.now c.requires.leave c.deref.ensures.value c.index-rows-leave.is in
     let pivot : c.deref-then-index-ne0-2.result.now ≡ list_at c.args.rows.now c.args.leave = read_shared c.args.rows.now c.args.leave _ c.deref-then-index-ne0-2.result.now c.requires.leave c.deref-then-index-ne0-2.ensures.value c.index-rows-leave-then-index-ne0.is in
-    subst (λ (r : List ℤ). IsMost r c.greatest-most.result) (first ∙ sym pivot) c.greatest-most.ensures
+    subst (λ (r : List ℤ). ArePivotWords r c.args.place c.fill_words.new.words) (first ∙ sym pivot) c.fill_words.ensures
 
 pub next_row-requires-clause-lead : goal.next_row-requires-clause-lead
 next_row-requires-clause-lead c =

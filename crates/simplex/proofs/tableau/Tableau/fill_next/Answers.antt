@@ -16,6 +16,7 @@ returns-clause-room c = λ height width h.
     record {
       rows = h.rows;
       next = h.next;
+      words = h.words;
       each_row = h.each_row;
       each_next = subst (RowsHold width) (sym items) (c.next_rows.ensures.room width (subst (RowsHold width) (sym c.deref_mut.ensures.value) h.each_next));
       basic = h.basic;
