@@ -80,6 +80,7 @@ fn size_at(row: &[i128], words: &[i64], lead: i64, part: i64, column: usize) -> 
 }
 
 /// Writes the quotients of what the elimination leaves from a column on, until one is missed: its column, or the width.
+#[inline(never)]
 fn divide(
     row: &[i128],
     words: &[i64],
