@@ -1,14 +1,14 @@
 -- Row updates by exact quotients: what the products stay below, and what makes the row that a pivot leaves.
-use Rattle.std.proofs.Common.{ℕ, ◌+◌, ◌*◌, ◌^◌, ◌<◌, ◌≤◌, ◌≡◌, ◌≢◌, ℤ, pos, ◌+ℤ◌, ◌-ℤ◌, ◌*ℤ◌, ◌<ℤ◌, List, [], ◌∷◌, length, sym, ap, ◌∙◌, subst, arith, unsigned_abs, inl, inr, set, lit≤, FitsSigned, to_z, of_z, to_z-of_z}
+use Rattle.std.proofs.Common.{ℕ, ◌+◌, ◌*◌, ◌^◌, ◌<◌, ◌≤◌, ◌≡◌, ◌≢◌, ℤ, pos, ◌+ℤ◌, ◌-ℤ◌, ◌*ℤ◌, ◌<ℤ◌, List, [], ◌∷◌, length, sym, ap, ◌∙◌, subst, arith, unsigned_abs, inl, inr, set, lit≤, ◌-◌, ◌/◌, mul-le-mul_left, mul_comm, FitsSigned, to_z, of_z, to_z-of_z}
 use Rattle.std.specs.Int.{◌∣◌, IsGcd, w64, w128}
-use Rattle.std.proofs.Math.Nat.{eq-zero_of_zero-dvd, dvd-mul_right}
+use Rattle.std.proofs.Math.Nat.{eq-zero_of_zero-dvd, dvd-mul_right, div-mul-le_self}
 use Rattle.std.proofs.Math.ListN.{length-set}
 use Rattle.std.proofs.lemmas.Int.{ints, unsigned_abs-mul, fits_signed_from_abs}
 use Rattle.std.proofs.lemmas.Nat.{mul-lt}
 use Rattle.std.proofs.lemmas.Bool.{cases_eq}
 use Rattle.std.proofs.lemmas.List.{get_or-set_same, get_or-set_other}
 use Rattle.scaled_num.proofs.Ring.{ring, x, ◌⊗◌, ◌⊕◌, ◌⊖◌}
-use Rattle.simplex.specs.Program.{at, IsNarrow}
+use Rattle.simplex.specs.Program.{at, entry_limit, IsNarrow}
 use Rattle.simplex.specs.Elimination.{word_of, ArePivotWords, left_of, eliminated, IsCommonBound, AreQuotients, IsMade}
 use Rattle.simplex.proofs.Divisor.{lead_there, lead_positive}
 
@@ -135,3 +135,33 @@ set_narrow xs n y nl h e k kl = elim (cases_eq k n) [
   | inl same ↦ subst IsNarrow (sym (ap (at (set xs n y)) same ∙ get_or-set_same xs n y (pos 0) nl)) e
   | inr ne ↦ subst IsNarrow (sym (get_or-set_other xs n k y (pos 0) ne)) (h k (omega arith))
 ]
+
+-- ---- products of 64 bits
+pub narrow_word : (a : ℤ) → IsNarrow a → FitsSigned w64 a
+narrow_word a h = fits_signed_from_abs w64 a (omega arith)
+
+pub narrow_difference : (s t : ℤ) → IsNarrow s → IsNarrow t → FitsSigned w64 (s -ℤ t)
+narrow_difference s t h k = fits_signed_from_abs w64 (s -ℤ t) (omega (arith, ints))
+
+pub narrow_beside : (factor number most : ℤ) → unsigned_abs factor * unsigned_abs most < entry_limit → unsigned_abs number ≤ unsigned_abs most → IsNarrow (factor *ℤ number)
+narrow_beside factor number most h le =
+    subst (λ (t : ℕ). t < 2 ^ 62) (sym (unsigned_abs-mul factor number)) (let i : unsigned_abs factor * unsigned_abs number ≤ unsigned_abs factor * unsigned_abs most = mul-le-mul_left (unsigned_abs factor) le in omega arith)
+
+pub product_word : (by found most : ℤ) → unsigned_abs by * unsigned_abs most < entry_limit → unsigned_abs found ≤ unsigned_abs most → FitsSigned w64 (by *ℤ found)
+product_word by found most h le = narrow_word (by *ℤ found) (narrow_beside by found most h le)
+
+pub short_difference_is : (lead own part word : ℤ) → FitsSigned w64 lead → FitsSigned w64 own → FitsSigned w64 part → FitsSigned w64 word → IsNarrow (lead *ℤ own) → IsNarrow (part *ℤ word)
+    → to_z w64 (of_z w64 (to_z w64 (of_z w64 (to_z w64 (of_z w64 lead) *ℤ to_z w64 (of_z w64 own))) -ℤ to_z w64 (of_z w64 (to_z w64 (of_z w64 part) *ℤ to_z w64 (of_z w64 word))))) ≡ lead *ℤ own -ℤ part *ℤ word
+short_difference_is lead own part word a b d e h k =
+    let p : FitsSigned w64 (lead *ℤ own) = narrow_word (lead *ℤ own) h in
+    let q : FitsSigned w64 (part *ℤ word) = narrow_word (part *ℤ word) k in
+    let r : FitsSigned w64 (lead *ℤ own -ℤ part *ℤ word) = narrow_difference (lead *ℤ own) (part *ℤ word) h k in
+    simp to_z-of_z
+
+-- the greatest narrow number, divided
+pub beside_narrow : (factor : ℕ) (size : ℕ) → factor ≤ size → 0 < size → factor * ((2 ^ 62 - 1) / size) < 2 ^ 62
+beside_narrow factor size le some =
+    let whole : (2 ^ 62 - 1) / size * size ≤ 2 ^ 62 - 1 = div-mul-le_self (2 ^ 62 - 1) size in
+    let part : (2 ^ 62 - 1) / size * factor ≤ (2 ^ 62 - 1) / size * size = mul-le-mul_left ((2 ^ 62 - 1) / size) le in
+    let flip : factor * ((2 ^ 62 - 1) / size) ≡ (2 ^ 62 - 1) / size * factor = mul_comm factor ((2 ^ 62 - 1) / size) in
+    omega arith

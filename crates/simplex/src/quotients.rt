@@ -4,7 +4,7 @@
 //! nothing is proved of the inverse. A guess that misses makes the divisor smaller.
 
 ghost use Rattle.std.specs.Prelude.{◌≡◌, ℕ, ◌+◌, ◌*◌, ◌<◌, ◌≤◌, ◌^◌, pos, ◌-ℤ◌, ◌*ℤ◌, ◌<ℤ◌, unsigned_abs, length, IsTrue, IfSome};
-ghost use Rattle.simplex.specs.Program.{at, IsNarrow, AllNarrow};
+ghost use Rattle.simplex.specs.Program.{at, entry_limit, IsNarrow, AllNarrow};
 ghost use Rattle.simplex.specs.Elimination.{left_of, ArePivotWords, AreQuotients, IsMade};
 
 use crate::row::{is_wide, product};
@@ -79,8 +79,139 @@ fn size_at(row: &[i128], words: &[i64], lead: i64, part: i64, column: usize) -> 
     difference(lead, row[column] as i64, part, words[column]).unsigned_abs()
 }
 
+/// The greatest magnitude of what has a narrow product with the factor.
+#[tactic(auto, using(crate::proofs::Short::beside_narrow))]
+fn most_beside(factor: i64) -> i64
+    requires { IsNarrow factor }
+    ensures narrow { unsigned_abs factor * unsigned_abs result < entry_limit }
+    ensures small { IsNarrow result }
+{
+    (GREATEST.unsigned_abs() / factor.unsigned_abs().max(1)) as i64
+}
+
+/// Whether the number is at most this in magnitude.
+#[inline(always)]
+fn is_within(number: i64, most: i64) -> bool
+    requires { IsNarrow most }
+    ensures { IsTrue result → unsigned_abs number ≤ unsigned_abs most }
+{
+    number <= most && -most <= number
+}
+
+/// `lead * own - part * word`, where both products are narrow.
+#[inline(always)]
+#[tactic(auto, using(crate::proofs::Short::narrow_word, crate::proofs::Short::narrow_difference))]
+fn short_difference(lead: i64, own: i64, part: i64, word: i64) -> i64
+    requires own { IsNarrow (lead *ℤ own) }
+    requires word { IsNarrow (part *ℤ word) }
+    ensures { result ≡ lead *ℤ own -ℤ part *ℤ word }
+{
+    lead * own - part * word
+}
+
+/// The quotient, where it is at most this in magnitude and nothing is left. It may miss one that is there.
+#[inline(always)]
+#[tactic(auto, using(crate::proofs::Short::product_word))]
+fn short_quotient(value: i64, by: i64, most: i64, shift: u32, inverse: u64) -> Option<i64>
+    requires shift { shift < 64 }
+    requires small { IsNarrow most }
+    requires narrow { unsigned_abs by * unsigned_abs most < entry_limit }
+    ensures exact { IfSome result (λ found. by *ℤ found ≡ value) }
+    ensures most { IfSome result (λ found. unsigned_abs found ≤ unsigned_abs most) }
+{
+    let found = (value >> shift)
+        .cast_unsigned()
+        .wrapping_mul(inverse)
+        .cast_signed();
+    if !is_within(found, most) || by * found != value {
+        return None;
+    }
+    Some(found)
+}
+
+/// Writes the quotients of what the elimination leaves from a column on, while all products on the way are narrow: the
+/// column that it comes to.
+#[inline(never)]
+#[tactic(auto, using(crate::proofs::Short::narrow_beside))]
+fn divide_short(
+    row: &[i128],
+    words: &[i64],
+    lead: i64,
+    part: i64,
+    by: i64,
+    from: usize,
+    new: &mut [i128],
+) -> usize
+    requires same { length words.now ≡ length row.now }
+    requires room { length new.old ≡ length row.now }
+    requires width { length row.now < 2 ^ 32 }
+    requires row { AllNarrow row.now }
+    requires lead { IsNarrow lead }
+    requires part { IsNarrow part }
+    requires positive { pos 0 <ℤ by }
+    requires narrow { IsNarrow by }
+    requires from { from ≤ length row.now }
+    requires before { AreQuotients lead part row.now words.now by from new.old }
+    ensures inside { result ≤ length row.now }
+    ensures done { AreQuotients lead part row.now words.now by result new.new }
+{
+    let shift = by.trailing_zeros() % 64;
+    let inverse = inverse(by.unsigned_abs() >> shift);
+    let own_most = most_beside(lead);
+    let word_most = most_beside(part);
+    let most = most_beside(by);
+    for column in from..row.len() {
+        let own = row[column] as i64;
+        let word = words[column];
+        if !is_within(own, own_most) || !is_within(word, word_most) {
+            return column;
+        }
+        let left = short_difference(lead, own, part, word);
+        let Some(found) = short_quotient(left, by, most, shift, inverse) else {
+            return column;
+        };
+        new[column] = i128::from(found);
+    }
+    row.len()
+}
+
 /// Writes the quotients of what the elimination leaves from a column on, until one is missed: its column, or the width.
 #[inline(never)]
+fn divide_long(
+    row: &[i128],
+    words: &[i64],
+    lead: i64,
+    part: i64,
+    by: i64,
+    from: usize,
+    new: &mut [i128],
+) -> usize
+    requires same { length words.now ≡ length row.now }
+    requires room { length new.old ≡ length row.now }
+    requires width { length row.now < 2 ^ 32 }
+    requires row { AllNarrow row.now }
+    requires lead { IsNarrow lead }
+    requires part { IsNarrow part }
+    requires positive { pos 0 <ℤ by }
+    requires narrow { IsNarrow by }
+    requires from { from ≤ length row.now }
+    requires before { AreQuotients lead part row.now words.now by from new.old }
+    ensures inside { result ≤ length row.now }
+    ensures done { AreQuotients lead part row.now words.now by result new.new }
+{
+    let shift = by.trailing_zeros() % 64;
+    let inverse = inverse(by.unsigned_abs() >> shift);
+    for column in from..row.len() {
+        let left = difference(lead, row[column] as i64, part, words[column]);
+        let Some(found) = quotient(left, by, shift, inverse) else {
+            return column;
+        };
+        new[column] = i128::from(found);
+    }
+    row.len()
+}
+
+/// Writes the quotients of what the elimination leaves from a column on, until one is missed: its column, or the width.
 fn divide(
     row: &[i128],
     words: &[i64],
@@ -97,21 +228,14 @@ fn divide(
     requires lead { IsNarrow lead }
     requires part { IsNarrow part }
     requires positive { pos 0 <ℤ by }
+    requires narrow { IsNarrow by }
     requires from { from ≤ length row.now }
     requires before { AreQuotients lead part row.now words.now by from new.old }
     ensures inside { result ≤ length row.now }
     ensures done { AreQuotients lead part row.now words.now by result new.new }
 {
-    let shift = by.trailing_zeros() % 64;
-    let inverse = inverse(by.unsigned_abs() >> shift);
-    for column in from..row.len() {
-        let left = difference(lead, row[column] as i64, part, words[column]);
-        let Some(found) = quotient(left, by, shift, inverse) else {
-            return column;
-        };
-        new[column] = i128::from(found);
-    }
-    row.len()
+    let column = divide_short(row, words, lead, part, by, from, new);
+    divide_long(row, words, lead, part, by, column, new)
 }
 
 /// Multiplies the first numbers, where the products are narrow. It gives up at one that is not.

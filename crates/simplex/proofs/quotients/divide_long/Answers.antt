@@ -4,7 +4,7 @@ use Rattle.simplex.specs.Program.{at, IsNarrow}
 use Rattle.simplex.specs.Elimination.{left_of, AreQuotients}
 use Rattle.simplex.proofs.Narrow.{narrow_fits, narrow_fits_64}
 use Rattle.simplex.proofs.Short.{quotients_more}
-use Rattle.simplex.proofs.quotients.divide.Goals as goal
+use Rattle.simplex.proofs.quotients.divide_long.Goals as goal
 
 pub returns-in_default-clause-done : goal.returns-in_default-clause-done
 returns-in_default-clause-done c =
