@@ -3,10 +3,10 @@
 ghost use Rattle.controller.specs.Export.{ExportsAreOne};
 ghost use Rattle.controller.specs.Members.{MembersKeep, StandsByRules};
 
-/// A law: what the members of every certificate that fits have. The mix of a node sums to the total of a mix, after each
-/// own action and observation its steps have that action's weight, and steps name own actions, observations and nodes.
-/// The mixes of a point sum to that total in each state, and shares name own actions, observations and points. Entries
-/// and values keep to the span.
+/// A law: what the members of every certificate that fits have. The mix of a node sums to the total of a mix, after
+/// each own action and observation its steps have that action's weight, and steps name own actions, observations and
+/// nodes. The mixes of a point sum to that total in each state, and shares name own actions, observations and points.
+/// Entries and values keep to the span.
 pub fn law_members()
     ensures { MembersKeep }
 {}

@@ -21,11 +21,11 @@ pub fn law_splittings()
     ensures { UpperHolds }
 {}
 
-/// A law: the lower half for a certificate that stands. The plan of every node, each weight times any number, is a right
-/// plan of that number times the total of a mix, and over every number of stages, in each first state, against every
-/// plan of the informed player and any total, it earns at least the node's entry less the tail. The controller, which
-/// draws among the plans of the start nodes, earns at least the lower bound less the tail against every family of plans,
-/// and in each first state alone the weighted entries of the start nodes less the tail.
+/// A law: the lower half for a certificate that stands. The plan of every node, each weight times any number, is a
+/// right plan of that number times the total of a mix, and over every number of stages, in each first state, against
+/// every plan of the informed player and any total, it earns at least the node's entry less the tail. The controller,
+/// which draws among the plans of the start nodes, earns at least the lower bound less the tail against every family
+/// of plans, and in each first state alone the weighted entries of the start nodes less the tail.
 pub fn law_lower(game: &Game, certificate: &Certificate)
     requires { CertificateStands game.now certificate.now }
     ensures plans { NodesArePlans game.now certificate.now }
@@ -39,10 +39,10 @@ pub fn law_lower(game: &Game, certificate: &Certificate)
 }
 
 /// A law: the upper half for a certificate that stands. The plan of every point, each weight times any number, is a
-/// right plan in each first state, and over every number of stages, summed over the first states by the point's belief,
-/// it holds every plan of player one, of any total, to at most the point's value plus the tail. The splitting strategy,
-/// which draws among the plans of the start points by what each brings to the first state, holds it to at most the upper
-/// bound plus the tail. Each positive mass divides the common multiple.
+/// right plan in each first state, and over every number of stages, summed over the first states by the point's
+/// belief, it holds every plan of player one, of any total, to at most the point's value plus the tail. The splitting
+/// strategy, which draws among the plans of the start points by what each brings to the first state, holds it to at
+/// most the upper bound plus the tail. Each positive mass divides the common multiple.
 pub fn law_upper(game: &Game, certificate: &Certificate)
     requires { CertificateStands game.now certificate.now }
     ensures divide { MassesDivide game.now certificate.now }

@@ -48,29 +48,30 @@ pub fn run<I: Source, O: Sink>(
     // Where the words name no command, the source is untouched.
     ensures unread { named words.now ≡ None →
         IsUntouched (I.left input.old) (I.left input.new) (I.faults input.old) (I.faults input.new) }
-    // Where no count rose, the answer to the input was written whole; only want of memory may come in its place, and then
-    // nothing is written.
+    // Where no count rose, the answer to the input was written whole; only want of memory may come in its place, and
+    // then nothing is written.
     ensures complete { IfSome (I.left input.old) (λ bytes.
         ¬ (Rose (I.faults input.old) (I.faults input.new)) → ¬ (Rose (O.faults output.old) (O.faults output.new)) →
         IsGiven (named words.now) bytes (O.room output.old) (O.written output.old) (O.written output.new) result) }
     // Where no search is asked for, every input has an answer.
     ensures answered { AsksNoSearch (named words.now) →
         IfSome (I.left input.old) (λ bytes. IsAnswered (Answers (named words.now) bytes)) }
-    // What `floor` promises: the printed action earns the printed bound less the tail, against every plan of the informed
-    // player.
+    // What `floor` promises: the printed action earns the printed bound less the tail, against every plan of the
+    // informed player.
     ensures floor_earns { result ≡ Status.Done → named words.now ≡ Some Floor → IfSome (I.left input.old)
         (λ bytes. WroteOne (FloorPromises bytes) (O.room output.old) (O.written output.old) (O.written output.new)) }
-    // What a yes of `check` promises: the bytes spell a game and a certificate, whose bounds are printed, and both halves
-    // hold of it.
+    // What a yes of `check` promises: the bytes spell a game and a certificate, whose bounds are printed, and both
+    // halves hold of it.
     ensures check_proves { result ≡ Status.Done → named words.now ≡ Some Check → IfSome (I.left input.old)
         (λ bytes. WroteOne (CheckPromises bytes) (O.room output.old) (O.written output.old) (O.written output.new)) }
     // What `show` promises: the text that is written spells the game that was read, and is shown as it is.
     ensures show_spells { result ≡ Status.Done → named words.now ≡ Some Show → IfSome (I.left input.old)
         (λ bytes. WroteOne (ShowPromises bytes) (O.room output.old) (O.written output.old) (O.written output.new)) }
-    // What the certificate of `solve` promises: it is for the game that was read, has the tolerance of the words, is closed
-    // exactly at Done, and both halves hold of it.
+    // What the certificate of `solve` promises: it is for the game that was read, has the tolerance of the words, is
+    // closed exactly at Done, and both halves hold of it.
     ensures solve_proves { (trials : ℕ) (gap : Gap) → named words.now ≡ Some (Solve trials gap) →
-        MakesCertificate result → IfSome (I.left input.old) (λ bytes. WroteOne (SolvePromises (gap_data gap) result bytes)
+        MakesCertificate result → IfSome (I.left input.old) (λ bytes.
+        WroteOne (SolvePromises (gap_data gap) result bytes)
         (O.room output.old) (O.written output.old) (O.written output.new)) }
 {
     law_answers();
@@ -87,8 +88,8 @@ pub fn run<I: Source, O: Sink>(
     }
 }
 
-/// A law: the answer of each command is defined, so an input has one answer at most; without a search it has one. To what
-/// `solve` wrote for a game, behind the game's text, `check` answers yes.
+/// A law: the answer of each command is defined, so an input has one answer at most; without a search it has one. To
+/// what `solve` wrote for a game, behind the game's text, `check` answers yes.
 pub fn law_answers()
     ensures work { WorkIsDefined }
     ensures one { AnswersAreOne }

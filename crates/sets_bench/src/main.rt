@@ -1,4 +1,5 @@
-//! Asks full sets of drawn nodes and points for drawn masses, and prints nanoseconds a call. Without the word `measure` it does nothing.
+//! Asks full sets of drawn nodes and points for drawn masses, and prints nanoseconds a call. Without the word
+//! `measure` it does nothing.
 #![tactic(auto)]
 
 mod drawn;

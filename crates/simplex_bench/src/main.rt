@@ -1,4 +1,5 @@
-//! Runs drawn programs of three sizes, and prints pivots and nanoseconds an entry. Without the word `measure` it does nothing.
+//! Runs drawn programs of three sizes, and prints pivots and nanoseconds an entry. Without the word `measure` it does
+//! nothing.
 #![tactic(auto)]
 
 ghost use Rattle.std.specs.Prelude.{◌≡◌, ℕ, pos, ◌+◌, ◌*◌, ◌<◌, ◌≤◌, ◌^◌, ◌≤ℤ◌, IsTrue, length, IfOk};
@@ -252,7 +253,13 @@ fn measure_both(rt: HostRuntime, shape: Shape, seed: &mut u64) -> io::Result<()>
 
 /// The shape of these sizes.
 fn shape_of(values: u32, replies: u32, actions: u32, links: u32, choices: u32) -> Shape
-    ensures { result ≡ record { values = values; replies = replies; actions = actions; links = links; choices = choices } }
+    ensures { result ≡ record {
+      values = values;
+      replies = replies;
+      actions = actions;
+      links = links;
+      choices = choices;
+    } }
 {
     Shape {
         values,

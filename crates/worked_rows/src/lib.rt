@@ -1,4 +1,5 @@
-//! Worked rows of single calls of the libraries. This crate has nothing but tests, so that no other crate is proved twice.
+//! Worked rows of single calls of the libraries. This crate has nothing but tests, so that no other crate is proved
+//! twice.
 #![tactic(auto)]
 
 #[cfg(test)]
