@@ -9,7 +9,7 @@ use scaled_num::Fraction;
 use std::alloc::{AllocError, Global};
 
 /// One state and one action of each player, with the reward 3 at each stage; the discount is a half.
-fn three_halved(alloc: Global) -> Result<Game, GameFault> {
+pub fn three_halved(alloc: Global) -> Result<Game, GameFault> {
     let shape = Shape {
         states: 1,
         own_actions: 1,

@@ -25,10 +25,14 @@ mod points;
 #[cfg(test)]
 mod programs;
 #[cfg(test)]
+mod searches;
+#[cfg(test)]
 mod seeds;
 #[cfg(test)]
 mod solvers;
 #[cfg(test)]
 mod stages;
+#[cfg(test)]
+mod visits;
 #[cfg(test)]
 mod words;

@@ -7,7 +7,7 @@ use point_set::{PointSet, Share};
 use std::alloc::Global;
 
 /// Matching pennies in one state, without a future.
-fn pennies(alloc: Global) -> Result<Game, GameFault> {
+pub fn pennies(alloc: Global) -> Result<Game, GameFault> {
     let shape = Shape {
         states: 1,
         own_actions: 2,
@@ -24,8 +24,9 @@ fn pennies(alloc: Global) -> Result<Game, GameFault> {
     builder.finish()
 }
 
-/// Two states that stay as they are: player one is paid where its action is the number of the state.
-fn guess(alloc: Global) -> Result<Game, GameFault> {
+/// Two states that stay as they are, with this first belief: player one is paid where its action is the number of the
+/// state.
+pub fn guess(alloc: Global, first: &[i128]) -> Result<Game, GameFault> {
     let shape = Shape {
         states: 2,
         own_actions: 2,
@@ -34,7 +35,7 @@ fn guess(alloc: Global) -> Result<Game, GameFault> {
         row_total: 1,
         discount: (0, 1),
     };
-    let mut builder = GameBuilder::new(alloc, shape, &[1, 1])?;
+    let mut builder = GameBuilder::new(alloc, shape, first)?;
     for s in 0..2 {
         for a in 0..2 {
             builder.step(if s == a { 1 } else { 0 })?;
@@ -113,7 +114,7 @@ fn seeds_of_matching_pennies_have_no_root(rt: HostRuntime) {
 
 #[test]
 fn seeds_of_guess_the_state_have_a_root(rt: HostRuntime) {
-    let Ok(game) = guess(rt.alloc()) else {
+    let Ok(game) = guess(rt.alloc(), &[1, 1]) else {
         panic!(rt; "the game is refused");
     };
     let Ok((nodes, points)) = seed(rt.alloc(), &game) else {

@@ -4,9 +4,9 @@ use simplex::Solver;
 
 /// The rows of the largest stage program without its goal row, and its variables: with the goal row, the leads and
 /// the constants it is a dictionary of 1,250 rows and 792 columns.
-const MOST_ROWS: u32 = 1249;
+pub const MOST_ROWS: u32 = 1249;
 
-const MOST_VARIABLES: u32 = 790;
+pub const MOST_VARIABLES: u32 = 790;
 
 #[test]
 fn the_largest_stage_program_is_reserved(rt: HostRuntime) {

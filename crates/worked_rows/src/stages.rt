@@ -48,7 +48,7 @@ fn pennies(alloc: Global) -> Result<Game, GameFault> {
 }
 
 /// Nothing is ever paid; the discount is a half.
-fn nothing_paid(alloc: Global) -> Result<Game, GameFault> {
+pub fn nothing_paid(alloc: Global) -> Result<Game, GameFault> {
     one_state(alloc, &[0, 0, 0, 0], (1, 2))
 }
 
@@ -116,7 +116,7 @@ fn upper_of(
 }
 
 /// The seeds of a game, which serve its stage programs.
-fn seeds_of(alloc: Global, game: &Game) -> Result<(NodeSet, PointSet), AllocError>
+pub fn seeds_of(alloc: Global, game: &Game) -> Result<(NodeSet, PointSet), AllocError>
     ensures nodes { IfOk result (λ sets. NodesServe game.now sets.0.members) }
     ensures points { IfOk result (λ sets. PointsServe game.now sets.1.members) }
 {
