@@ -14,6 +14,7 @@ pub mod Weights
 pub mod Standing
 pub mod Beginning
 pub mod Holding
+pub mod Remembering
 pub mod Rooms
 pub mod ReducedLong
 pub mod VisitParts

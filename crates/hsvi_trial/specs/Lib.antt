@@ -17,6 +17,7 @@ pub mod Ends
 pub mod Courses
 pub mod Data
 pub mod Held
+pub mod Remembered
 pub mod Laws
 pub mod Copies
 pub mod Growth

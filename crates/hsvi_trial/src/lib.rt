@@ -7,6 +7,7 @@ mod ends;
 mod keeping;
 mod laws;
 mod least;
+mod memory;
 mod one_run;
 mod search;
 mod solving;
