@@ -10,10 +10,12 @@ use Rattle.game_model.specs.Game.{GameData}
 use Rattle.point_set.specs.Members.{point_data}
 use Rattle.point_set.specs.Points.{PointData}
 use Rattle.point_set.specs.declared.points.Point.{Point}
+use Rattle.stage_game.specs.AdviceData.{LowerAdviceData, UpperAdviceData}
 use Rattle.stage_game.specs.Data.{lower_data, upper_data}
 use Rattle.hsvi_trial.specs.Due.{KeepsNode, KeepsPoint}
-use Rattle.hsvi_trial.specs.Remembered.{AreLowerSides, AreUpperSides, IsLowerMade, IsLowerSide, IsUpperMade, IsUpperSide}
+use Rattle.hsvi_trial.specs.Remembered.{AreLowerSides, AreUpperSides, IsLowerMade, IsLowerSide, IsMemory, IsUpperMade, IsUpperSide, left_of}
 use Rattle.hsvi_trial.specs.declared.memory.LowerSide.{LowerSide}
+use Rattle.hsvi_trial.specs.declared.memory.Memory.{Memory}
 use Rattle.hsvi_trial.specs.declared.memory.UpperSide.{UpperSide}
 
 -- ---- a side is remembered
@@ -55,3 +57,33 @@ pub upper-sides-go-on : (Refused : Type 0) (g : GameData) (before after : List P
     (sides : List (Option UpperSide)) → AreUpperSides g before sides → AreUpperSides g after sides
 upper-sides-go-on Refused g before after belief point number keeps sides each = λ k d l.
     some-more (IsUpperSide g before) (IsUpperSide g after) (upper-goes-on Refused g before after belief point number keeps) _ (each k d l)
+
+-- ---- what is left of a visit is right on the sets after it
+pub lower-left : (g : GameData) (before after : List NodeData) (belief : List ℤ) (advice : LowerAdviceData) (node : Node) (number : Option ℕ) (left : Option Node) →
+    KeepsNode before after belief (node_data node) number → left ≡ left_of number node → IsLowerMade g before belief advice (node_data node) →
+    IfSome left (λ (x : Node). IsLowerMade g after belief advice (node_data x))
+lower-left g before after belief advice node None left keeps is made =
+    subst (λ (o : Option Node). IfSome o (λ (x : Node). IsLowerMade g after belief advice (node_data x))) (sym is)
+    (subst (λ (ns : List NodeData). IsLowerMade g ns belief advice (node_data node)) (sym keeps.1) made)
+lower-left g before after belief advice node (Some n) left keeps is made =
+    subst (λ (o : Option Node). IfSome o (λ (x : Node). IsLowerMade g after belief advice (node_data x))) (sym is) tt
+
+pub upper-left : (Refused : Type 0) (g : GameData) (before after : List PointData) (belief : List ℤ) (advice : UpperAdviceData) (point : Point) (number : Option ℕ) (left : Option Point) →
+    KeepsPoint Refused before after belief (point_data point) number → left ≡ left_of number point → IsUpperMade g before belief advice (point_data point) →
+    IfSome left (λ (x : Point). IsUpperMade g after belief advice (point_data x))
+upper-left Refused g before after belief advice point None left keeps is made =
+    subst (λ (o : Option Point). IfSome o (λ (x : Point). IsUpperMade g after belief advice (point_data x))) (sym is)
+    (subst (λ (ps : List PointData). IsUpperMade g ps belief advice (point_data point)) (sym keeps.1) made)
+upper-left Refused g before after belief advice point (Some n) left keeps is made =
+    subst (λ (o : Option Point). IfSome o (λ (x : Point). IsUpperMade g after belief advice (point_data x))) (sym is) tt
+
+-- ---- nothing is remembered at first
+nothing : {X : Type 0} (P : X → Type 0) (o : Option X) → o ≡ None → IfSome o P
+nothing P o e = subst (λ (x : Option _). IfSome x P) (sym e) tt
+
+pub memory-new : (g : GameData) (nodes : List NodeData) (points : List PointData) (memory : Memory) → All (λ side. side ≡ None) memory.lower.items → All (λ side. side ≡ None) memory.upper.items →
+    IsMemory g nodes points memory
+memory-new g nodes points memory lower upper = record {
+  lower = λ k d l. nothing (IsLowerSide g nodes) _ (lower k d l);
+  upper = λ k d l. nothing (IsUpperSide g points) _ (upper k d l);
+}

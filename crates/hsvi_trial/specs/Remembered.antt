@@ -1,5 +1,5 @@
 -- What a search remembers of the last visit of each depth: what it made, and on how many members.
-use Rattle.std.specs.Prelude.{ℕ, ℤ, List, Option, IfSome, length, ◌++◌, ◌≡◌, ◌≤◌}
+use Rattle.std.specs.Prelude.{ℕ, ℤ, List, Option, None, Some, IfSome, length, ◌++◌, ◌≡◌, ◌≤◌}
 use Rattle.std.specs.List.{All}
 use Rattle.alpha_set.specs.Members.{node_data}
 use Rattle.alpha_set.specs.Nodes.{NodeData, NodeFits, NodeStands, node_of, nodes_of}
@@ -48,3 +48,8 @@ AreUpperSides g points sides = All (λ side. IfSome side (IsUpperSide g points))
 pub record IsMemory (g : GameData) (nodes : List NodeData) (points : List PointData) (memory : Memory) : Type 0 where
   pub lower : AreLowerSides g nodes memory.lower.items
   pub upper : AreUpperSides g points memory.upper.items
+
+-- what is left of a new member that was kept under a number, or was not
+abbrev pub left_of : {M : Type 0} → Option ℕ → M → Option M
+left_of None member = Some member
+left_of (Some number) member = None

@@ -6,6 +6,7 @@ ghost use Rattle.alpha_set.specs.Worth.{worth_at};
 ghost use Rattle.game_model.specs.Game.{IsWithin};
 ghost use Rattle.game_model.specs.Limits.{most_belief, most_states};
 ghost use Rattle.hsvi_trial.specs.Due.{IsNodeDue, IsNodeRefused, IsPointDue, IsPointRefused, KeepsNode, KeepsPoint};
+ghost use Rattle.hsvi_trial.specs.Remembered.{left_of};
 ghost use Rattle.point_set.specs.Members.{point_data};
 ghost use Rattle.point_set.specs.Sawtooth.{AreMeasured};
 ghost use Rattle.stage_game.specs.Asked.{BeliefFits, NodesServe};
@@ -40,25 +41,33 @@ const REFUSED: Kept = Kept {
     refused: true,
 };
 
-/// Keeps a node where it is due and there is room. The set has room to spare for one, so no memory is taken.
-pub fn keep_node(game: &Game, nodes: &mut NodeSet, belief: &Belief, node: Node) -> Kept
+/// Keeps a node where it is due and there is room, and else gives it back. The set has room to spare for one, so no
+/// memory is taken.
+pub fn keep_node(
+    game: &Game,
+    nodes: &mut NodeSet,
+    belief: &Belief,
+    node: Node,
+) -> (Kept, Option<Node>)
     requires belief { BeliefFits game.now belief.now }
     requires nodes { NodesServe game.now nodes.old.members }
     requires node { NodeFits game.now (length nodes.old.members) (node_data node) }
     requires spare { 1 ≤ nodes.old.spare }
-    ensures kept { KeepsNode nodes.old.members nodes.new.members belief.now (node_data node) result.number }
-    ensures refused { IsTrue result.refused ↔ IsNodeRefused nodes.old.members belief.now (node_data node) }
+    ensures kept { KeepsNode nodes.old.members nodes.new.members belief.now (node_data node) result.0.number }
+    ensures refused { IsTrue result.0.refused ↔ IsNodeRefused nodes.old.members belief.now (node_data node) }
+    ensures left { result.1 ≡ left_of result.0.number node }
 {
     if !is_node_due(game, nodes, belief, &node) {
-        return NOT_KEPT;
+        return (NOT_KEPT, Some(node));
     }
     if nodes.len() as usize == MOST_NODES {
-        return REFUSED;
+        return (REFUSED, Some(node));
     }
-    Kept {
+    let kept = Kept {
         number: nodes.push(node).ok(),
         refused: false,
-    }
+    };
+    (kept, None)
 }
 
 /// Whether a node's product with a belief is greater than what the nodes are worth there.
@@ -99,28 +108,35 @@ fn product(belief: &[i128], vector: &[i128]) -> i128
     sum
 }
 
-/// Keeps a point where it is due, there is room, and no node of the same visit was refused. The set has room to spare
-/// for one, so no memory is taken.
-pub fn keep_point(points: &mut PointSet, belief: &Belief, point: Point, node_refused: bool) -> Kept
+/// Keeps a point where it is due, there is room, and no node of the same visit was refused, and else gives it back. The
+/// set has room to spare for one, so no memory is taken.
+pub fn keep_point(
+    points: &mut PointSet,
+    belief: &Belief,
+    point: Point,
+    node_refused: bool,
+) -> (Kept, Option<Point>)
     requires measured { AreMeasured points.old.members belief.now }
     requires spare { 1 ≤ points.old.spare }
     ensures kept { KeepsPoint (IsTrue node_refused) points.old.members points.new.members
-        belief.now (point_data point) result.number }
-    ensures refused { IsTrue result.refused ↔ IsPointRefused points.old.members belief.now (point_data point) }
+        belief.now (point_data point) result.0.number }
+    ensures refused { IsTrue result.0.refused ↔ IsPointRefused points.old.members belief.now (point_data point) }
+    ensures left { result.1 ≡ left_of result.0.number point }
 {
     if !is_point_due(points, belief, &point) {
-        return NOT_KEPT;
+        return (NOT_KEPT, Some(point));
     }
     if points.len() as usize == MOST_POINTS {
-        return REFUSED;
+        return (REFUSED, Some(point));
     }
     if node_refused {
-        return NOT_KEPT;
+        return (NOT_KEPT, Some(point));
     }
-    Kept {
+    let kept = Kept {
         number: points.push(point).ok(),
         refused: false,
-    }
+    };
+    (kept, None)
 }
 
 /// Whether a point's value is below the least one among the points at a belief, and where there is none, below the

@@ -14,6 +14,7 @@ ghost use Rattle.std.specs.Prelude.{IfOk, OnErr, OnOk, [], false, length, ◌*�
 use crate::choices::look_on;
 use crate::courses::Course;
 use crate::ends::{end_of, outcome};
+use crate::memory::{Memory, remember_lower, remember_upper};
 use crate::solving::Solved;
 use crate::starts::{StartOf, are_closed, start_of};
 use crate::visiting::{keep, make};
@@ -51,12 +52,15 @@ pub struct Search<'g> {
     course: Course,
     /// Whether the last visit was cut.
     cut: bool,
+    /// What the last visits made.
+    memory: Memory,
 }
 
 impl<'g> Model for Search<'g> {
     ghost use Rattle.controller.specs.Data.{fraction_data};
     ghost use Rattle.hsvi_trial.specs.Data.{SearchState, search_state};
     ghost use Rattle.hsvi_trial.specs.Held.{IsHeld};
+    ghost use Rattle.hsvi_trial.specs.Remembered.{IsMemory};
 
     ghost Value = { SearchState };
 
@@ -64,7 +68,8 @@ impl<'g> Model for Search<'g> {
 
     ghost invariant = { λ s.
         IsHeld (search_state s.game.now s.trials (fraction_data s.gap) s.nodes s.points s.journal.items s.cut)
-        s.course s.solver };
+        s.course s.solver
+        × IsMemory s.game.now s.nodes.members s.points.members s.memory };
 }
 
 impl<'g> Search<'g> {
@@ -93,6 +98,7 @@ impl<'g> Search<'g> {
         prove!(points.len() as usize <= MOST_POINTS);
         let mut solver = Solver::new(alloc);
         reserve_solver(&mut solver, game)?;
+        let memory = Memory::new(alloc)?;
         Ok(Search {
             alloc,
             game,
@@ -104,6 +110,7 @@ impl<'g> Search<'g> {
             journal: Vec::new(alloc),
             course: Course::new(game),
             cut: false,
+            memory,
         })
     }
 
@@ -151,9 +158,11 @@ impl<'g> Search<'g> {
             &mut self.solver,
             self.game,
             &place.belief,
+            place.depth,
             &mut self.nodes,
             &mut self.points,
             &mut self.journal,
+            &mut self.memory,
         )?;
         let kept = keep(
             self.game,
@@ -173,6 +182,24 @@ impl<'g> Search<'g> {
             place.goes_down(kept.cut),
             &made.lower.informed,
             &made.upper.own,
+        );
+        remember_lower(
+            &mut self.memory.lower,
+            self.game,
+            &place.belief,
+            place.depth,
+            &self.nodes,
+            made.lower,
+            kept.left_node,
+        );
+        remember_upper(
+            &mut self.memory.upper,
+            self.game,
+            &place.belief,
+            place.depth,
+            &self.points,
+            made.upper,
+            kept.left_point,
         );
         let trial = self.course.trial;
         let count = self.journal.len() + 1;

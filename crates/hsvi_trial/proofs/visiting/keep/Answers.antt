@@ -7,8 +7,8 @@ use Rattle.hsvi_trial.specs.Due.{IsNodeRefused}
 use Rattle.hsvi_trial.proofs.Holding.{nodes-go-on, points-go-on}
 use Rattle.hsvi_trial.proofs.visiting.keep.Goals as goal
 
-pub keep_point-point-requires-clause-measured : goal.keep_point-point-requires-clause-measured
-keep_point-point-requires-clause-measured c = record {
+pub keep_point-left_point-requires-clause-measured : goal.keep_point-left_point-requires-clause-measured
+keep_point-left_point-requires-clause-measured c = record {
   game = c.args.game.now;
   accepted = c.law_game.ensures.accepted;
   fit = c.requires.points.fit;
@@ -16,18 +16,10 @@ keep_point-point-requires-clause-measured c = record {
   right = belief-mass c.args.game.now c.law_game.ensures.accepted c.args.belief.now c.requires.belief.right;
 }
 
-pub returns-else-node-clause-nodes : goal.returns-else-node-clause-nodes
-returns-else-node-clause-nodes c =
-    nodes-go-on c.args.game.now c.args.nodes.now.members c.keep_node-node.new.nodes.members c.args.belief.now (node_data c.args.node) c.keep_node-node.result.number c.requires.nodes c.keep_node-node.ensures.kept c.requires.node
+pub returns-clause-nodes : goal.returns-clause-nodes
+returns-clause-nodes c =
+    nodes-go-on c.args.game.now c.args.nodes.now.members c.keep_node-left_node.new.nodes.members c.args.belief.now (node_data c.args.node) c.keep_node-left_node.result.0.number c.requires.nodes c.keep_node-left_node.ensures.kept c.requires.node
 
-pub returns-else-node-clause-points : goal.returns-else-node-clause-points
-returns-else-node-clause-points c =
-    points-go-on (IsTrue c.keep_node-node.result.refused) c.args.game.now c.args.points.now.members c.keep_point-point.new.points.members c.args.belief.now (point_data c.args.point) c.keep_point-point.result.number c.requires.points c.keep_point-point.ensures.kept c.requires.point
-
-pub returns-then-node-clause-nodes : goal.returns-then-node-clause-nodes
-returns-then-node-clause-nodes c =
-    nodes-go-on c.args.game.now c.args.nodes.now.members c.keep_node-node.new.nodes.members c.args.belief.now (node_data c.args.node) c.keep_node-node.result.number c.requires.nodes c.keep_node-node.ensures.kept c.requires.node
-
-pub returns-then-node-clause-points : goal.returns-then-node-clause-points
-returns-then-node-clause-points c =
-    points-go-on (IsTrue c.keep_node-node.result.refused) c.args.game.now c.args.points.now.members c.keep_point-point.new.points.members c.args.belief.now (point_data c.args.point) c.keep_point-point.result.number c.requires.points c.keep_point-point.ensures.kept c.requires.point
+pub returns-clause-points : goal.returns-clause-points
+returns-clause-points c =
+    points-go-on (IsTrue c.keep_node-left_node.result.0.refused) c.args.game.now c.args.points.now.members c.keep_point-left_point.new.points.members c.args.belief.now (point_data c.args.point) c.keep_point-left_point.result.0.number c.requires.points c.keep_point-left_point.ensures.kept c.requires.point

@@ -7,7 +7,7 @@ use Rattle.hsvi_trial.proofs.search.Search.finish.Goals as goal
 
 pub start_of-requires : goal.start_of-requires
 start_of-requires c =
-    has-start _ c.self.inside.course c.self.inside.solver c.law_game.ensures.accepted c.self.invariant
+    has-start _ c.self.inside.course c.self.inside.solver c.law_game.ensures.accepted c.self.invariant.0
 
 pub returns : goal.returns
 returns c = record {

@@ -14,10 +14,10 @@ use Rattle.hsvi_trial.proofs.search.Search.take.Goals as goal
 
 pub are_closed-closed-requires-clause-start : goal.are_closed-closed-requires-clause-start
 are_closed-closed-requires-clause-start c =
-    has-start _ c.self.inside.course c.self.inside.solver c.law_game.ensures.accepted c.self.invariant
+    has-start _ c.self.inside.course c.self.inside.solver c.law_game.ensures.accepted c.self.invariant.0
 
 pub are_closed-closed-requires-clause-gap : goal.are_closed-closed-requires-clause-gap
-are_closed-closed-requires-clause-gap c = c.self.invariant.limits.gap
+are_closed-closed-requires-clause-gap c = c.self.invariant.0.limits.gap
 
 pub returns-clause-run : goal.returns-clause-run
 returns-clause-run c =
@@ -48,4 +48,4 @@ returns-clause-run c =
 pub returns-clause-standing : goal.returns-clause-standing
 returns-clause-standing c =
     subst (λ (g : GameData). AreStanding g (record { nodes = c.self.inside.nodes.members; points = c.self.inside.points.members }))
-    (ap (λ (s : SearchState). s.task.game) c.self.view_is) c.self.invariant.standing
+    (ap (λ (s : SearchState). s.task.game) c.self.view_is) c.self.invariant.0.standing
