@@ -1,16 +1,17 @@
 -- An input has one answer, whatever the command.
-use Rattle.std.proofs.Common.{◌≡◌, ◌⊎◌, ℕ, ◌<◌, ◌≤◌, [], length, Some, None, refl, sym, ◌∙◌, arith, inl, inr}
+use Rattle.std.proofs.Common.{◌≡◌, ◌⊎◌, ℕ, ◌<◌, ◌≤◌, [], length, Some, None, Bool, true, false, refl, sym, ◌∙◌, arith, inl, inr}
 use Rattle.osposg_cli.specs.declared.words.Command.{Command}
-use Rattle.osposg_cli.specs.declared.words.Command.TheVariants.{Check, Floor, Show, Solve}
-use Rattle.osposg_cli.specs.Answer.{Answers, AnswersAreOne, AsksNoSearch, InputsAreAnswered, IsWork, SolvedIsChecked, WorkIsDefined}
+use Rattle.osposg_cli.specs.declared.words.Command.TheVariants.{Check, Floor, Gen, Show, Solve}
+use Rattle.osposg_cli.specs.Answer.{Answers, AnswersAreOne, AsksNoSearch, InputsAreAnswered, IsWork, ReadsInput, SolvedIsChecked, WorkIsDefined}
 use Rattle.osposg_cli.specs.Check.{AnswersCheck}
 use Rattle.osposg_cli.specs.Defined.{AreAnswered, IsAnswered, IsDefined}
 use Rattle.osposg_cli.specs.Floor.{AnswersFloor}
+use Rattle.osposg_cli.specs.Generate.{GenIsAnswered, GenIsDefined}
 use Rattle.osposg_cli.specs.Inputs.{most_input}
 use Rattle.osposg_cli.specs.Refusals.{words_refused}
 use Rattle.osposg_cli.specs.Show.{AnswersShow}
 use Rattle.osposg_cli.specs.Solve.{MakesCertificate, SolveIsDefined}
-use Rattle.osposg_cli.specs.Words.{gap_data}
+use Rattle.osposg_cli.specs.Words.{gap_data, reads_input}
 use Rattle.osposg_cli.specs.declared.status.Status.{Status}
 use Rattle.osposg_cli.specs.declared.status.Status.TheVariants.{TooLong, WordsRefused}
 use Rattle.osposg_cli.proofs.Solved.{solve-checked}
@@ -18,17 +19,19 @@ use Rattle.game_text.specs.Laws.{AnyRest}
 use Rattle.std.proofs.lemmas.Bool.{cases_order}
 
 -- by command
-pub work-defined : IsDefined AnswersFloor → SolveIsDefined → IsDefined AnswersCheck → IsDefined AnswersShow → WorkIsDefined
-work-defined floor solve check show Floor = floor
-work-defined floor solve check show (Solve trials gap) = solve trials (gap_data gap)
-work-defined floor solve check show Check = check
-work-defined floor solve check show Show = show
+pub work-defined : IsDefined AnswersFloor → SolveIsDefined → IsDefined AnswersCheck → IsDefined AnswersShow → GenIsDefined → WorkIsDefined
+work-defined floor solve check show gen Floor = floor
+work-defined floor solve check show gen (Solve trials gap) = solve trials (gap_data gap)
+work-defined floor solve check show gen Check = check
+work-defined floor solve check show gen Show = show
+work-defined floor solve check show gen (Gen number size) = gen number size
 
-pub work-some : AreAnswered AnswersFloor → AreAnswered AnswersCheck → AreAnswered AnswersShow → (command : Command) → AsksNoSearch (Some command) → AreAnswered (IsWork command)
-work-some floor check show Floor none = floor
-work-some floor check show (Solve trials gap) none = absurd none
-work-some floor check show Check none = check
-work-some floor check show Show none = show
+pub work-some : AreAnswered AnswersFloor → AreAnswered AnswersCheck → AreAnswered AnswersShow → GenIsAnswered → (command : Command) → AsksNoSearch (Some command) → AreAnswered (IsWork command)
+work-some floor check show gen Floor none = floor
+work-some floor check show gen (Solve trials gap) none = absurd none
+work-some floor check show gen Check none = check
+work-some floor check show gen Show none = show
+work-some floor check show gen (Gen number size) none = λ input. gen number size
 
 -- whatever the command
 pub too-long : (n : ℕ) → most_input < n → n ≤ most_input → ⊥
@@ -36,21 +39,32 @@ too-long n l k = omega arith
 
 pub answers-once : WorkIsDefined → AnswersAreOne
 answers-once work None input status other text more (s, t) (r, m) = (s ∙ sym r, t ∙ sym m)
-answers-once work (Some command) input status other text more (inl (l, s, t)) (inl (k, r, m)) = (s ∙ sym r, t ∙ sym m)
-answers-once work (Some command) input status other text more (inl (l, s, t)) (inr (k, h)) = absurd (too-long (length input) l k)
-answers-once work (Some command) input status other text more (inr (l, h)) (inl (k, r, m)) = absurd (too-long (length input) k l)
+answers-once work (Some command) input status other text more (inl (reads, l, s, t)) (inl (read, k, r, m)) = (s ∙ sym r, t ∙ sym m)
+answers-once work (Some command) input status other text more (inl (reads, l, s, t)) (inr (k, h)) = absurd (too-long (length input) l (k reads))
+answers-once work (Some command) input status other text more (inr (l, h)) (inl (read, k, r, m)) = absurd (too-long (length input) k (l read))
 answers-once work (Some command) input status other text more (inr (l, h)) (inr (k, w)) = (work command).one input status other text more h w
 
 few-or-many : (n : ℕ) → (n ≤ most_input) ⊎ (most_input < n)
 few-or-many n = elim (cases_order n most_input) [ inl e ↦ inl (omega (arith, e)) | inr l ↦ elim l [ inl a ↦ inl (omega (arith, a)) | inr b ↦ inr b ] ]
 
+reads-or-not : (command : Command) → (ReadsInput (Some command)) ⊎ (ReadsInput (Some command) → ⊥)
+reads-or-not command = by_value (reads_input command)
+  where
+    by_value : (reads : Bool) → (reads ≡ true) ⊎ (reads ≡ true → ⊥)
+    by_value true = inl refl
+    by_value false = inr (λ e. cc)
+
 pub answers-some : ((command : Command) → AsksNoSearch (Some command) → AreAnswered (IsWork command)) → InputsAreAnswered
 answers-some work None none input = (WordsRefused, words_refused, (refl, refl))
-answers-some work (Some command) none input = found (few-or-many (length input))
+answers-some work (Some command) none input = found (reads-or-not command) (few-or-many (length input))
   where
-    found : (length input ≤ most_input) ⊎ (most_input < length input) → IsAnswered (Answers (Some command) input)
-    found (inl few) = let answer = work command none input in (answer.0, answer.1, inr (few, answer.2))
-    found (inr many) = (TooLong, [], inl (many, refl, refl))
+    told : (ReadsInput (Some command) → length input ≤ most_input) → IsAnswered (Answers (Some command) input)
+    told few = let answer = work command none input in (answer.0, answer.1, inr (few, answer.2))
+
+    found : (ReadsInput (Some command)) ⊎ (ReadsInput (Some command) → ⊥) → (length input ≤ most_input) ⊎ (most_input < length input) → IsAnswered (Answers (Some command) input)
+    found (inr not) long = told (λ reads. absurd (not reads))
+    found (inl reads) (inl few) = told (λ read. few)
+    found (inl reads) (inr many) = (TooLong, [], inl (reads, many, refl, refl))
 
 -- a certificate is made of an input that is not too long
 pub too_long_not : (status : Status) → status ≡ TooLong → MakesCertificate status → ⊥
@@ -59,7 +73,7 @@ too_long_not status long (inr open_now) = let e = sym long ∙ open_now in cc
 
 -- what `solve` wrote, behind the game's text
 pub answers-checked : AnyRest → SolvedIsChecked
-answers-checked rest trials gap input text status (inl (l, s, t)) made few = absurd (too_long_not status s made)
+answers-checked rest trials gap input text status (inl (reads, l, s, t)) made few = absurd (too_long_not status s made)
 answers-checked rest trials gap input text status (inr (l, h)) made few =
     let yes = solve-checked rest trials (gap_data gap) input text status h made in
-    (yes.0, inr (few, yes.1))
+    (yes.0, inr (λ reads. few, yes.1))

@@ -3,16 +3,17 @@ use Rattle.std.proofs.Common.{◌≡◌, ℕ, ◌<◌, ◌≤◌, List, [], leng
 use Rattle.std.proofs.lemmas.Option.{none-some}
 use Rattle.std.proofs.lemmas.List.{append-nil}
 use Rattle.std.specs.Result.{MatchResult, IfOk, IsErrAnd}
-use Rattle.std.specs.Prelude.{Bool, true, false, IfSome, IsSome, ⊤}
-use Rattle.hsvi_io.specs.Bytes.{GaveAll, GaveTooMany, Wrote}
+use Rattle.std.specs.Prelude.{false, IfSome, ⊤}
+use Rattle.hsvi_io.specs.Bytes.{GaveAll, Wrote}
 use Rattle.osposg_cli.specs.declared.status.Status.{Status}
 use Rattle.osposg_cli.specs.declared.status.Status.TheVariants.{Done, No, Open, GameRefused, CertRefused, WordsRefused, ReadFault, WriteFault, OutOfMemory, TooLong}
 use Rattle.osposg_cli.specs.declared.words.Command.{Command}
-use Rattle.osposg_cli.specs.declared.words.Command.TheVariants.{Solve}
+use Rattle.osposg_cli.specs.declared.words.Command.TheVariants.{Check, Floor, Gen, Show, Solve}
 use Rattle.osposg_cli.specs.declared.words.Gap.{Gap}
 use Rattle.osposg_cli.specs.Solve.{AnswersSolve, KeepsSolve, MakesCertificate, SolvePromises}
-use Rattle.osposg_cli.specs.Words.{gap_data}
-use Rattle.osposg_cli.specs.Answer.{Answers, AnswersInput, AsksNoSearch, Ends, InputsAreAnswered, IsDue, IsEarly, IsGiven, IsInput, IsWork, WorkIsDefined, WroteOne}
+use Rattle.osposg_cli.specs.Generate.{GenPromises, KeepsGen}
+use Rattle.osposg_cli.specs.Words.{IsWithinLimits, gap_data, reads_input}
+use Rattle.osposg_cli.specs.Answer.{Answers, AsksNoSearch, Ends, InputsAreAnswered, IsDue, IsEarly, IsGiven, IsInput, IsWork, ReadsInput, WorkIsDefined, WroteOne}
 use Rattle.osposg_cli.specs.Defined.{HasText, IsAnswered}
 use Rattle.osposg_cli.specs.Inputs.{most_input}
 use Rattle.osposg_cli.specs.Refusals.{words_refused}
@@ -42,7 +43,25 @@ given (Some left) new bytes gave = gave.0
 pub due_work : WorkIsDefined → (named : Option Command) (left new : Option (List ℕ)) (command : Command) (bytes : List ℕ) (status : Status) (text : List ℕ) →
     named ≡ Some command → GaveAll left new bytes → length bytes ≤ most_input → IsWork command bytes status text → IsDue named left status text
 due_work work named left new command bytes status text e gave few h =
-    (bytes, given left new bytes gave, subst (λ (c : Option Command). Answers c bytes status text) (sym e) (inr (few, h)), (work command).told bytes status text h)
+    (bytes, given left new bytes gave, subst (λ (c : Option Command). Answers c bytes status text) (sym e) (inr (λ reads. few, h)), (work command).told bytes status text h)
+
+-- a command that reads no input answers the same to every input
+work_any : (command : Command) → reads_input command ≡ false → (input other : List ℕ) (status : Status) (text : List ℕ) → IsWork command input status text → IsWork command other status text
+work_any Floor e input other status text h = absurd cc
+work_any (Solve trials gap) e input other status text h = absurd cc
+work_any Check e input other status text h = absurd cc
+work_any Show e input other status text h = absurd cc
+work_any (Gen number size) e input other status text h = h
+
+unread_not : (command : Command) → reads_input command ≡ false → ReadsInput (Some command) → ⊥
+unread_not command e reads = let both = sym e ∙ reads in cc
+
+pub due_unread : WorkIsDefined → (named : Option Command) (left : Option (List ℕ)) (command : Command) (bytes : List ℕ) (status : Status) (text : List ℕ) →
+    named ≡ Some command → reads_input command ≡ false → IsWork command bytes status text → IsDue named left status text
+due_unread work named left command bytes status text e not h =
+    let found = some_input left in
+    let same = work_any command not bytes found.0 status text h in
+    (found.0, found.1, subst (λ (c : Option Command). Answers c found.0 status text) (sym e) (inr (λ reads. absurd (unread_not command not reads), same)), (work command).told found.0 status text same)
 
 -- a text that is due was written whole
 pub ends_whole : (command : Option Command) (left new : Option (List ℕ)) (room : ℕ) (old written : Option (List ℕ)) (status : Status) (text : List ℕ) →
@@ -82,16 +101,16 @@ wrote_nothing room None = tt
 wrote_nothing room (Some before) = sym (append-nil before)
 
 -- `TooLong` answers an input that is too long
-long_answer : (command : Option Command) (bytes : List ℕ) → IsSome command → most_input < length bytes → Answers command bytes TooLong []
-long_answer None bytes e long = absurd cc
-long_answer (Some command) bytes e long = inl (long, refl, refl)
+long_answer : (command : Option Command) (bytes : List ℕ) → ReadsInput command → most_input < length bytes → Answers command bytes TooLong []
+long_answer None bytes reads long = absurd reads
+long_answer (Some command) bytes reads long = inl (reads, long, refl, refl)
 
 -- an early end, where the source did not fail
 given_early : (command : Option Command) (left : List ℕ) (new : Option (List ℕ)) (room : ℕ) (old : Option (List ℕ)) (status : Status) →
     IsEarly command (Some left) new status → (status ≡ ReadFault → ⊥) → IsGiven command left room old old status
 given_early command left new room old OutOfMemory early fault = inr (refl, refl)
 given_early command left new room old ReadFault early fault = absurd (fault refl)
-given_early command left new room old TooLong (some, gave) fault = inl ([], long_answer command left some gave.0, wrote_nothing room old)
+given_early command left new room old TooLong (reads, gave) fault = inl ([], long_answer command left reads gave.0, wrote_nothing room old)
 given_early command left new room old Done early fault = absurd early
 given_early command left new room old No early fault = absurd early
 given_early command left new room old Open early fault = absurd early
@@ -121,7 +140,7 @@ is_done Done = ⊤
 is_done status = ⊥
 
 work_done : (command : Command) (input text : List ℕ) → Answers (Some command) input Done text → IsWork command input Done text
-work_done command input text (inl (l, s, t)) = absurd (subst is_done s tt)
+work_done command input text (inl (reads, l, s, t)) = absurd (subst is_done s tt)
 work_done command input text (inr (few, h)) = h
 
 -- what a command's text promises holds of what was written
@@ -136,7 +155,7 @@ promised P command holds named (Some left) room old written status text due wrot
 
 -- what the certificate of `solve` promises holds of what was written
 solve_work : (trials : ℕ) (gap : Gap) (input text : List ℕ) (status : Status) → Answers (Some (Solve trials gap)) input status text → MakesCertificate status → AnswersSolve trials (gap_data gap) input status text
-solve_work trials gap input text status (inl (l, s, t)) made = absurd (too_long_not status s made)
+solve_work trials gap input text status (inl (reads, l, s, t)) made = absurd (too_long_not status s made)
 solve_work trials gap input text status (inr (few, h)) made = h
 
 pub promised_solve : KeepsSolve → (trials : ℕ) (gap : Gap) (named : Option Command) (left : Option (List ℕ)) (room : ℕ) (old written : Option (List ℕ)) (status : Status) (text : List ℕ) →
@@ -147,21 +166,11 @@ promised_solve keeps trials gap named (Some left) room old written status text d
     let answer = subst (λ (c : Option Command). Answers c left status text) e (due_to named (Some left) left status text refl due) in
     (text, keeps trials (gap_data gap) left text status (solve_work trials gap left text status answer made) made, wrote)
 
--- ---- an answer to an input is one where the words name a command
-abbrev is_refused : Status → Type 0
-is_refused WordsRefused = ⊤
-is_refused status = ⊥
-
-not_refused : (status : Status) → AnswersInput status → status ≡ WordsRefused → ⊥
-not_refused status (inl a) e = subst is_refused (sym e ∙ a) tt
-not_refused status (inr (inl a)) e = subst is_refused (sym e ∙ a) tt
-not_refused status (inr (inr (inl a))) e = subst is_refused (sym e ∙ a) tt
-not_refused status (inr (inr (inr (inl a)))) e = subst is_refused (sym e ∙ a) tt
-not_refused status (inr (inr (inr (inr a)))) e = subst is_refused (sym e ∙ a) tt
-
-named_by : (command : Option Command) (input : List ℕ) (status : Status) (text : List ℕ) → Answers command input status text → (status ≡ WordsRefused → ⊥) → IsSome command
-named_by None input status text answer not = absurd (not answer.0)
-named_by (Some command) input status text answer not = refl
-
-pub read_end : (command : Option Command) (left : Option (List ℕ)) (status : Status) (text : List ℕ) → IsDue command left status text → AnswersInput status → IsSome command
-read_end command left status text (input, is, answer, has) one = named_by command input status text answer (not_refused status one)
+-- what the text of `gen` promises holds of what was written
+pub promised_gen : KeepsGen → (number size : ℕ) (named : Option Command) (left : Option (List ℕ)) (room : ℕ) (old written : Option (List ℕ)) (status : Status) (text : List ℕ) →
+    IsDue named left status text → Wrote room old written text → IfSome named IsWithinLimits → status ≡ Done → named ≡ Some (Gen number size) →
+    WroteOne (GenPromises number size) room old written
+promised_gen keeps number size named left room old written status text due wrote within done e =
+    let limits = subst (λ (c : Option Command). IfSome c IsWithinLimits) e within in
+    let answer = subst (λ (c : Option Command). Answers c due.0 Done text) e (subst (λ (s : Status). Answers named due.0 s text) done due.2) in
+    (text, keeps number size text limits.0 limits.1 (work_done (Gen number size) due.0 text answer), wrote)

@@ -13,3 +13,4 @@ pub mod DigitValues
 pub mod OptionLists
 pub mod Slashes
 pub mod Solved
+pub mod Generated

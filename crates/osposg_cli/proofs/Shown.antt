@@ -9,10 +9,10 @@ use Rattle.osposg_cli.specs.Inputs.{TextsAreExact}
 use Rattle.osposg_cli.specs.Show.{AnswersShow, IsShown, KeepsShow}
 use Rattle.osposg_cli.proofs.Shared.{game-once, game-some, game-told}
 
-shown-once : (g : GameData) → IsOne (IsShown g)
+pub shown-once : (g : GameData) → IsOne (IsShown g)
 shown-once g status other text more (s, t) (r, m) = (s ∙ sym r, t ∙ sym m)
 
-shown-told : (g : GameData) → IsTold (IsShown g)
+pub shown-told : (g : GameData) → IsTold (IsShown g)
 shown-told g status text (s, t) = subst HasText (sym s) tt
 
 shown-some : (g : GameData) → IsGame g → IsAnswered (IsShown g)

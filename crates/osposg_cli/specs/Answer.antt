@@ -1,36 +1,45 @@
 -- What the command and the input define, and how a run ends.
-use Rattle.std.specs.Prelude.{◌≡◌, ◌⊎◌, ℕ, ◌+◌, ◌<◌, ◌≤◌, List, [], ◌++◌, length, Option, Some, None, IsSome, ⊤}
+use Rattle.std.specs.Prelude.{◌≡◌, ◌⊎◌, ℕ, ◌+◌, ◌<◌, ◌≤◌, List, [], ◌++◌, length, Option, Some, None, true, ⊤}
 use Rattle.hsvi_io.specs.Bytes.{GaveFront, GaveTooMany, Wrote, WroteFront}
 use Rattle.osposg_cli.specs.declared.status.Status.{Status}
 use Rattle.osposg_cli.specs.declared.status.Status.TheVariants.{Done, No, Open, GameRefused, CertRefused, WordsRefused, ReadFault, WriteFault, OutOfMemory, TooLong}
 use Rattle.osposg_cli.specs.declared.words.Command.{Command}
 use Rattle.osposg_cli.specs.declared.words.Gap.{Gap}
-use Rattle.osposg_cli.specs.declared.words.Command.TheVariants.{Check, Floor, Show, Solve}
+use Rattle.osposg_cli.specs.declared.words.Command.TheVariants.{Check, Floor, Gen, Show, Solve}
 use Rattle.osposg_cli.specs.Check.{AnswersCheck}
 use Rattle.osposg_cli.specs.Defined.{AreAnswered, HasText, IsDefined, IsOne}
 use Rattle.osposg_cli.specs.Floor.{AnswersFloor}
+use Rattle.osposg_cli.specs.Generate.{AnswersGen}
 use Rattle.osposg_cli.specs.Inputs.{most_input}
 use Rattle.osposg_cli.specs.Refusals.{words_refused}
 use Rattle.osposg_cli.specs.Show.{AnswersShow}
 use Rattle.osposg_cli.specs.Solve.{AnswersSolve, MakesCertificate}
-use Rattle.osposg_cli.specs.Words.{gap_data}
+use Rattle.osposg_cli.specs.Words.{gap_data, reads_input}
 
--- what a command answers to an input that is not too long
+-- what a command answers to an input that is not too long; `gen` answers the same to every input
 abbrev pub IsWork : Command → List ℕ → Status → List ℕ → Type 0
 IsWork Floor input status text = AnswersFloor input status text
 IsWork (Solve trials gap) input status text = AnswersSolve trials (gap_data gap) input status text
 IsWork Check input status text = AnswersCheck input status text
 IsWork Show input status text = AnswersShow input status text
+IsWork (Gen number size) input status text = AnswersGen number size status text
 
 -- each command's answer is defined
 abbrev pub WorkIsDefined : Type 0
 WorkIsDefined = (command : Command) → IsDefined (IsWork command)
 
--- What is answered to an input where the words name this command, or none: a status, and the text that is written.
+-- the words name a command that reads its input
+abbrev pub ReadsInput : Option Command → Type 0
+ReadsInput None = ⊥
+ReadsInput (Some command) = reads_input command ≡ true
+
+-- What is answered to an input where the words name this command, or none: a status, and the text that is written. To a
+-- command that does not read its input no input is too long.
 abbrev pub Answers : Option Command → List ℕ → Status → List ℕ → Type 0
 Answers None input status text = (status ≡ WordsRefused) × (text ≡ words_refused)
 Answers (Some command) input status text =
-    ((most_input < length input) × (status ≡ TooLong) × (text ≡ [])) ⊎ ((length input ≤ most_input) × IsWork command input status text)
+    (ReadsInput (Some command) × (most_input < length input) × (status ≡ TooLong) × (text ≡ []))
+    ⊎ ((ReadsInput (Some command) → length input ≤ most_input) × IsWork command input status text)
 
 -- the input, where the source tells it
 abbrev pub IsInput : Option (List ℕ) → List ℕ → Type 0
@@ -75,8 +84,8 @@ SolvedIsChecked =
 
 -- how a run ends before there is a text
 abbrev pub IsEarly : Option Command → Option (List ℕ) → Option (List ℕ) → Status → Type 0
-IsEarly command left left_new ReadFault = IsSome command × GaveFront left left_new (most_input + 1)
-IsEarly command left left_new TooLong = IsSome command × GaveTooMany left left_new most_input
+IsEarly command left left_new ReadFault = ReadsInput command × GaveFront left left_new (most_input + 1)
+IsEarly command left left_new TooLong = ReadsInput command × GaveTooMany left left_new most_input
 IsEarly command left left_new OutOfMemory = ⊤
 IsEarly command left left_new status = ⊥
 

@@ -9,3 +9,4 @@ pub mod Codes
 pub mod Show
 pub mod Options
 pub mod Solve
+pub mod Generate

@@ -54,3 +54,9 @@ abbrev pub said : {A : Type 0} → A → (List ℕ → Option A) → List (List 
 said default spelled [] = Some default
 said default spelled (value ∷ []) = spelled value
 said default spelled (value ∷ next ∷ values) = None
+
+-- the same of an option that must be given: of no value nothing
+abbrev pub said_once : {A : Type 0} → (List ℕ → Option A) → List (List ℕ) → Option A
+said_once spelled [] = None
+said_once spelled (value ∷ []) = spelled value
+said_once spelled (value ∷ next ∷ values) = None

@@ -1,5 +1,5 @@
 -- The words of the command line.
-use Rattle.std.specs.Prelude.{ℕ, pos, ◌==◌, ◌≤◌, ◌&&◌, ◌||◌, ⊤, nat_le, nat_lt, Bool, List, [], ◌∷◌, length, Option, Some, None, String, codes, map, if◌then◌else◌}
+use Rattle.std.specs.Prelude.{ℕ, pos, ◌==◌, ◌≤◌, ◌^◌, ◌-◌, ◌&&◌, ◌||◌, ⊤, nat_le, nat_lt, Bool, true, false, List, [], ◌∷◌, length, Option, Some, None, String, codes, map, if◌then◌else◌}
 use Rattle.std.specs.List.{after_first, before_first, list_all}
 use Rattle.std.specs.Option.{option_and_then, option_map}
 use Rattle.std.specs.Str.{all_ascii_digits, bytes_eq}
@@ -8,9 +8,9 @@ use Rattle.std.specs.String.{string_bytes}
 use Rattle.controller.specs.Certificates.{FractionData, IsGap, most_gap, most_gap_under}
 use Rattle.hsvi_trial.specs.Run.{most_trials}
 use Rattle.osposg_cli.specs.declared.words.Command.{Command}
-use Rattle.osposg_cli.specs.declared.words.Command.TheVariants.{Check, Floor, Show, Solve}
+use Rattle.osposg_cli.specs.declared.words.Command.TheVariants.{Check, Floor, Gen, Show, Solve}
 use Rattle.osposg_cli.specs.declared.words.Gap.{Gap}
-use Rattle.osposg_cli.specs.Options.{Named, options_of, said, values_under}
+use Rattle.osposg_cli.specs.Options.{Named, options_of, said, said_once, values_under}
 
 -- the tolerance of words, as certificates hold it
 abbrev pub gap_data : Gap → FractionData
@@ -70,6 +70,30 @@ solve_with options =
     then option_and_then (λ trials. option_map (Solve trials) (gap_in options)) (trials_in options)
     else None
 
+abbrev pub is_of_gen : Named → Bool
+is_of_gen option = bytes_eq option.name (codes "--number") || bytes_eq option.name (codes "--size")
+
+-- the greatest number of a generated game, and its greatest size
+abbrev pub most_number : ℕ
+most_number = 2 ^ 64 - 1
+
+abbrev pub most_size : ℕ
+most_size = 16
+
+-- the number of the game that `gen` makes, and its size; both must be said
+abbrev pub number_in : List Named → Option ℕ
+number_in options = said_once (number_of 0 most_number) (values_under (codes "--number") options)
+
+abbrev pub size_in : List Named → Option ℕ
+size_in options = said_once (number_of 1 most_size) (values_under (codes "--size") options)
+
+-- `gen` with its options
+unfoldable pub gen_with : List Named → Option Command
+gen_with options =
+    if list_all is_of_gen options
+    then option_and_then (λ number. option_map (Gen number) (size_in options)) (number_in options)
+    else None
+
 -- the command that this word names, with its options
 unfoldable pub command_with : List ℕ → List Named → Option Command
 command_with word options =
@@ -77,6 +101,7 @@ command_with word options =
     else if bytes_eq word (codes "solve") then solve_with options
     else if bytes_eq word (codes "check") then alone Check options
     else if bytes_eq word (codes "show") then alone Show options
+    else if bytes_eq word (codes "gen") then gen_with options
     else None
 
 -- the command that the words name: the first word is its own, and the others are its options
@@ -91,4 +116,10 @@ named words = command_of (map string_bytes words)
 -- the values of a command are within their limits
 abbrev pub IsWithinLimits : Command → Type 0
 IsWithinLimits (Solve trials gap) = (trials ≤ most_trials) × IsGap (gap_data gap)
+IsWithinLimits (Gen number size) = (1 ≤ size) × (size ≤ most_size)
 IsWithinLimits command = ⊤
+
+-- whether a command reads its input
+abbrev pub reads_input : Command → Bool
+reads_input (Gen number size) = false
+reads_input command = true

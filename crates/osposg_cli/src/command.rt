@@ -2,25 +2,26 @@
 ghost use Rattle.hsvi_io.specs.Bytes.{Wrote};
 ghost use Rattle.hsvi_io.specs.Causes.{Rose};
 ghost use Rattle.osposg_cli.specs.Answer.{Answers, AnswersAreOne, AnswersInput, AsksNoSearch, Ends, InputsAreAnswered, IsDue};
-ghost use Rattle.osposg_cli.specs.Answer.{IsEarly, IsGiven, IsReadToEnd, IsUntouched, IsWork, SolvedIsChecked};
-ghost use Rattle.osposg_cli.specs.Answer.{WorkIsDefined, WritesNothing, WroteOne};
+ghost use Rattle.osposg_cli.specs.Answer.{IsEarly, IsGiven, IsReadToEnd, IsUntouched, IsWork, ReadsInput};
+ghost use Rattle.osposg_cli.specs.Answer.{SolvedIsChecked, WorkIsDefined, WritesNothing, WroteOne};
 ghost use Rattle.osposg_cli.specs.Check.{CheckPromises};
 ghost use Rattle.osposg_cli.specs.Defined.{IsAnswered};
 ghost use Rattle.osposg_cli.specs.Floor.{FloorPromises};
+ghost use Rattle.osposg_cli.specs.Generate.{GenPromises};
 ghost use Rattle.osposg_cli.specs.Inputs.{most_input};
 ghost use Rattle.osposg_cli.specs.Show.{ShowPromises};
 ghost use Rattle.osposg_cli.specs.Solve.{MakesCertificate, SolvePromises};
 ghost use Rattle.osposg_cli.specs.Words.{IsWithinLimits, gap_data, named};
 ghost use Rattle.osposg_cli.specs.declared.words.Gap.{Gap};
-ghost use Rattle.osposg_cli.specs.declared.words.Command.TheVariants.{Check, Floor, Show, Solve};
-ghost use Rattle.std.specs.Prelude.{IfErr, IfOk, IfSome, IsErrOf, IsSome, List, None, OnOk, Some, ℕ, length, ◌≡◌, ◌≤◌};
+ghost use Rattle.osposg_cli.specs.declared.words.Command.TheVariants.{Check, Floor, Gen, Show, Solve};
+ghost use Rattle.std.specs.Prelude.{IfErr, IfOk, IfSome, IsErrOf, List, OnOk, Some, ℕ, length, ◌≡◌, ◌≤◌};
 
 use crate::answer::Answer;
 use crate::inputs::MOST_INPUT;
 use crate::refusals::words_refused;
 use crate::status::Status;
 use crate::words::{Command, parse};
-use crate::{check, floor, show, solve};
+use crate::{check, floor, generate, show, solve};
 use hsvi_io::{ReadEnd, Sink, Source, read_all, write_all};
 use std::alloc::{AllocError, Global};
 
@@ -35,8 +36,9 @@ pub fn run<I: Source, O: Sink>(
     // A text is written whole, or a front of it at a fault of the sink, or nothing.
     ensures ends { Ends (named words.now) (I.left input.old) (I.left input.new)
         (O.room output.old) (O.written output.old) (O.written output.new) result }
-    // An answer to an input says that the input was read to its end.
-    ensures read { AnswersInput result → IsReadToEnd (I.left input.old) (I.left input.new) }
+    // An answer of a command that reads says that the input was read to its end.
+    ensures read { ReadsInput (named words.now) → AnswersInput result →
+        IsReadToEnd (I.left input.old) (I.left input.new) }
     // Faults come only where the count of that very object rose.
     ensures read_fault { result ≡ Status.ReadFault → Rose (I.faults input.old) (I.faults input.new) }
     ensures write_fault { result ≡ Status.WriteFault → Rose (O.faults output.old) (O.faults output.new) }
@@ -45,8 +47,8 @@ pub fn run<I: Source, O: Sink>(
     // Where nothing is written, the sink is untouched.
     ensures unwritten { WritesNothing result →
         IsUntouched (O.written output.old) (O.written output.new) (O.faults output.old) (O.faults output.new) }
-    // Where the words name no command, the source is untouched.
-    ensures unread { named words.now ≡ None →
+    // Where the words name no command, or one that does not read, the source is untouched.
+    ensures unread { ¬ (ReadsInput (named words.now)) →
         IsUntouched (I.left input.old) (I.left input.new) (I.faults input.old) (I.faults input.new) }
     // Where no count rose, the answer to the input was written whole; only want of memory may come in its place, and
     // then nothing is written.
@@ -67,6 +69,10 @@ pub fn run<I: Source, O: Sink>(
     // What `show` promises: the text that is written spells the game that was read, and is shown as it is.
     ensures show_spells { result ≡ Status.Done → named words.now ≡ Some Show → IfSome (I.left input.old)
         (λ bytes. WroteOne (ShowPromises bytes) (O.room output.old) (O.written output.old) (O.written output.new)) }
+    // What `gen` promises: the text that is written spells the game of the number and the size, and is what `show`
+    // writes of itself.
+    ensures gen_spells { (number size : ℕ) → result ≡ Status.Done → named words.now ≡ Some (Gen number size) →
+        WroteOne (GenPromises number size) (O.room output.old) (O.written output.old) (O.written output.new) }
     // What the certificate of `solve` promises: it is for the game that was read, has the tolerance of the words, is
     // closed exactly at Done, and both halves hold of it.
     ensures solve_proves { (trials : ℕ) (gap : Gap) → named words.now ≡ Some (Solve trials gap) →
@@ -79,6 +85,7 @@ pub fn run<I: Source, O: Sink>(
     solve::law_solve();
     check::law_check();
     show::law_show();
+    generate::law_generate();
     match answer_to(alloc, words, input) {
         Ok(answer) => match write_all(output, &answer.text) {
             Ok(()) => answer.status,
@@ -101,16 +108,18 @@ pub fn law_answers()
     solve::law_solve();
     check::law_check();
     show::law_show();
+    generate::law_generate();
 }
 
 /// What is to be written, or how the run ends before there is a text.
 fn answer_to<I: Source>(alloc: Global, words: &[String], input: &mut I) -> Result<Answer, Status>
     ensures due { IfOk result (λ answer. IsDue (named words.now) (I.left input.old) answer.status answer.text.items) }
-    ensures read { OnOk result (IsSome (named words.now) → IsReadToEnd (I.left input.old) (I.left input.new)) }
+    ensures within { OnOk result (IfSome (named words.now) IsWithinLimits) }
+    ensures read { OnOk result (ReadsInput (named words.now) → IsReadToEnd (I.left input.old) (I.left input.new)) }
     ensures early { IfErr result (λ status. IsEarly (named words.now) (I.left input.old) (I.left input.new) status) }
     ensures read_fault { IsErrOf result Status.ReadFault → Rose (I.faults input.old) (I.faults input.new) }
     ensures reads_later { I.faults input.old ≤ I.faults input.new }
-    ensures unread { named words.now ≡ None →
+    ensures unread { ¬ (ReadsInput (named words.now)) →
         IsUntouched (I.left input.old) (I.left input.new) (I.faults input.old) (I.faults input.new) }
 {
     law_answers();
@@ -119,6 +128,9 @@ fn answer_to<I: Source>(alloc: Global, words: &[String], input: &mut I) -> Resul
         Ok(None) => return words_refused(alloc).map_err(|_| Status::OutOfMemory),
         Err(_) => return Err(Status::OutOfMemory),
     };
+    if !command.reads_input() {
+        return work(alloc, command, &[]).map_err(|_| Status::OutOfMemory);
+    }
     match read_all(alloc, input, MOST_INPUT) {
         Ok(bytes) => work(alloc, command, &bytes).map_err(|_| Status::OutOfMemory),
         Err(ReadEnd::Fault) => Err(Status::ReadFault),
@@ -127,7 +139,7 @@ fn answer_to<I: Source>(alloc: Global, words: &[String], input: &mut I) -> Resul
     }
 }
 
-/// The answer of a command to its input.
+/// The answer of a command to its input, which counts for nothing where the command reads none.
 fn work(alloc: Global, command: Command, bytes: &[u8]) -> Result<Answer, AllocError>
     requires bytes { length bytes.now ≤ most_input }
     requires command { IsWithinLimits command }
@@ -138,5 +150,6 @@ fn work(alloc: Global, command: Command, bytes: &[u8]) -> Result<Answer, AllocEr
         Command::Solve { trials, gap } => solve::work(alloc, trials, &gap.fraction(), bytes),
         Command::Check => check::work(alloc, bytes),
         Command::Show => show::work(alloc, bytes),
+        Command::Gen { number, size } => generate::work(alloc, number, size),
     }
 }

@@ -6,6 +6,7 @@ mod answer;
 mod check;
 mod command;
 mod floor;
+mod generate;
 mod inputs;
 mod options;
 mod refusals;

@@ -33,7 +33,7 @@ pub fn law_show()
 }
 
 /// The canonical text of a game, as an answer.
-fn shown(alloc: Global, game: &Game) -> Result<Answer, AllocError>
+pub fn shown(alloc: Global, game: &Game) -> Result<Answer, AllocError>
     ensures { IfOk result (λ answer. IsShown game.now answer.status answer.text.items) }
 {
     Ok(Answer {

@@ -4,7 +4,8 @@ ghost use Rattle.controller.specs.Data.{fraction_data};
 ghost use Rattle.hsvi_trial.specs.Run.{most_trials};
 ghost use Rattle.osposg_cli.specs.Options.{named_in};
 ghost use Rattle.osposg_cli.specs.Words.{IsWithinLimits, alone, command_with, digits_of, gap_data, gap_in, gap_of};
-ghost use Rattle.osposg_cli.specs.Words.{is_of_solve, named, number_of, solve_with, trials_in};
+ghost use Rattle.osposg_cli.specs.Words.{gen_with, is_of_gen, is_of_solve, most_size, named, number_in, number_of};
+ghost use Rattle.osposg_cli.specs.Words.{reads_input, size_in, solve_with, trials_in};
 ghost use Rattle.std.specs.Prelude.{IfOk, IfSome, map, ◌≡◌, ◌≤◌};
 
 use crate::options::{Given, Value, options, value_under};
@@ -50,6 +51,22 @@ pub enum Command {
     Check,
     /// The canonical text of a game.
     Show,
+    /// The text of a generated game.
+    Gen {
+        /// Which game of its size.
+        number: u64,
+        /// 1 to 16.
+        size: u32,
+    },
+}
+
+impl Command {
+    /// Whether the command reads its input.
+    pub fn reads_input(self) -> bool
+        ensures { result ≡ reads_input self }
+    {
+        !matches!(self, Command::Gen { .. })
+    }
 }
 
 /// The most digits of a value.
@@ -59,6 +76,9 @@ const MOST_DIGITS: usize = 30;
 const MOST_TRIALS: u128 = 10_000;
 
 const TRIALS: u32 = 100;
+
+/// The greatest size of a generated game.
+const MOST_SIZE: u128 = 16;
 
 /// The command that the words name, without the program's own name; `None` where they name none.
 #[tactic(auto, unfolding(crate::specs::Words::command_of))]
@@ -89,6 +109,8 @@ fn command_of_word(word: &str, options: &[Given<'_>]) -> Option<Command>
         alone(Command::Check, options)
     } else if word == "show" {
         alone(Command::Show, options)
+    } else if word == "gen" {
+        generate(options)
     } else {
         None
     }
@@ -162,6 +184,48 @@ fn gap_of(text: &str) -> Option<Gap>
         num: num as u64,
         den: den as u32,
     })
+}
+
+/// `gen` with its options.
+#[tactic(auto, unfolding(crate::specs::Words::gen_with))]
+fn generate(options: &[Given<'_>]) -> Option<Command>
+    ensures command { result ≡ gen_with (map named_in options.now) }
+    ensures within { IfSome result IsWithinLimits }
+{
+    if !options.iter().all(is_of_gen) {
+        return None;
+    }
+    let number = number_in(options)?;
+    let size = size_in(options)?;
+    Some(Command::Gen { number, size })
+}
+
+/// Whether an option is one of `gen`.
+fn is_of_gen(option: &Given<'_>) -> bool
+    ensures { result ≡ is_of_gen (named_in option.now) }
+{
+    option.name == "--number" || option.name == "--size"
+}
+
+/// Which game of its size `gen` makes.
+fn number_in(options: &[Given<'_>]) -> Option<u64>
+    ensures { result ≡ number_in (map named_in options.now) }
+{
+    match value_under(options, "--number") {
+        Value::Only(text) => Some(number(text, 0, u64::MAX as u128)? as u64),
+        Value::Missing | Value::Repeated => None,
+    }
+}
+
+/// The size of the game that `gen` makes.
+fn size_in(options: &[Given<'_>]) -> Option<u32>
+    ensures value { result ≡ size_in (map named_in options.now) }
+    ensures within { IfSome result (λ size. (1 ≤ size) × (size ≤ most_size)) }
+{
+    match value_under(options, "--size") {
+        Value::Only(text) => Some(number(text, 1, MOST_SIZE)? as u32),
+        Value::Missing | Value::Repeated => None,
+    }
 }
 
 /// The number that digits spell, from `low` to `high`.

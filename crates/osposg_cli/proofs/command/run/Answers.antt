@@ -1,5 +1,5 @@
 use Rattle.std.proofs.Common.{rules}
-use Rattle.osposg_cli.proofs.Due.{complete_early, complete_whole, ends_whole, promised, promised_solve, read_end}
+use Rattle.osposg_cli.proofs.Due.{complete_early, complete_whole, ends_whole, promised, promised_gen, promised_solve}
 use Rattle.osposg_cli.specs.declared.words.Command.TheVariants.{Check, Floor, Show}
 use Rattle.osposg_cli.specs.Check.{CheckPromises}
 use Rattle.osposg_cli.specs.Floor.{FloorPromises}
@@ -16,7 +16,7 @@ pub returns-clause-complete : goal.returns-clause-complete
 returns-clause-complete g c = complete_early _ _ _ _ _ _ _ _ c.in-Err.ensures.early (λ calm. search rules)
 
 pub returns-in-Ok-write_all-clause-read : goal.returns-in-Ok-write_all-clause-read
-returns-in-Ok-write_all-clause-read g c = λ one. c.in-Ok.ensures.read (read_end _ _ _ _ c.in-Ok.ensures.due one)
+returns-in-Ok-write_all-clause-read g c = λ reads one. c.in-Ok.ensures.read reads
 
 pub returns-in-Ok-write_all-clause-floor_earns : goal.returns-in-Ok-write_all-clause-floor_earns
 returns-in-Ok-write_all-clause-floor_earns g c = promised FloorPromises Floor c.law_floor.ensures.keeps _ _ _ _ _ _ _ c.in-Ok.ensures.due (search rules)
@@ -30,3 +30,7 @@ returns-in-Ok-write_all-clause-show_spells g c = promised ShowPromises Show c.la
 pub returns-in-Ok-write_all-clause-solve_proves : goal.returns-in-Ok-write_all-clause-solve_proves
 returns-in-Ok-write_all-clause-solve_proves g c =
     λ trials gap e made. promised_solve c.law_solve.ensures.keeps trials gap _ _ _ _ _ _ _ c.in-Ok.ensures.due (search rules) e made
+
+pub returns-in-Ok-write_all-clause-gen_spells : goal.returns-in-Ok-write_all-clause-gen_spells
+returns-in-Ok-write_all-clause-gen_spells g c =
+    λ number size done e. promised_gen c.law_generate.ensures.keeps number size _ _ _ _ _ _ _ c.in-Ok.ensures.due (search rules) c.in-Ok.ensures.within done e
