@@ -1,0 +1,7 @@
+//! Plays that anyone can repeat: each is a function of a game, a certificate and a seed.
+#![tactic(auto)]
+
+mod choices;
+mod parts;
+
+pub use parts::{PlayLog, Played, Rival};
