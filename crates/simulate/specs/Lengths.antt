@@ -1,6 +1,7 @@
 -- How long plays may be, so that their gains fit.
-use Rattle.std.specs.Prelude.{ℕ, max, ◌*◌, ◌^◌, ◌≤◌}
+use Rattle.std.specs.Prelude.{ℕ, max, ◌*◌, ◌^◌, ◌<◌, ◌≤◌, ◌↔◌}
 use Rattle.game_model.specs.Game.{GameData, greatest_reward, numbers}
+use Rattle.simulate.specs.declared.parts.Played.{Played}
 
 -- the most stages of a play
 abbrev pub most_stages : ℕ
@@ -14,7 +15,11 @@ most_gain g n = n * max 1 (greatest_reward g) * (numbers g).discount_under ^ n
 abbrev pub IsShortPlay : GameData → ℕ → Type 0
 IsShortPlay g n = (n ≤ most_stages) × (most_gain g n ≤ 2 ^ 120)
 
--- the greatest number of stages within the limit
-pub record IsLongest (g : GameData) (n : ℕ) : Type 0 where
-  pub short : IsShortPlay g n
-  pub greatest : (m : ℕ) → IsShortPlay g m → m ≤ n
+-- the greatest number of stages within the limit: so many and fewer are, and no more
+abbrev pub IsLongest : GameData → ℕ → Type 0
+IsLongest g n = (m : ℕ) → m ≤ n ↔ IsShortPlay g m
+
+-- a step whose reward the game has
+abbrev pub IsInGame : GameData → Played → Type 0
+IsInGame g played =
+    (played.state < g.shape.states) × (played.own < g.shape.own_actions) × (played.informed < g.shape.informed_actions)

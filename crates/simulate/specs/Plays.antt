@@ -1,5 +1,5 @@
 -- The play that a seed gives: what each stage draws, in order, and what the play gains.
-use Rattle.std.specs.Prelude.{ℕ, zero, suc, ℤ, pos, ◌+◌, ◌*◌, ◌^◌, ◌+ℤ◌, ◌*ℤ◌, ◌==◌, ◌≡◌, ◌<◌, List, [], ◌∷◌, map, length, slice_index_or, unsigned_abs, Option, Some, None, IfSome, if◌then◌else◌}
+use Rattle.std.specs.Prelude.{ℕ, zero, suc, ℤ, pos, ◌+◌, ◌*◌, ◌^◌, ◌+ℤ◌, ◌*ℤ◌, ◌==◌, ◌≡◌, ◌<◌, ◌≤◌, List, [], ◌∷◌, map, length, slice_index_or, unsigned_abs, Option, Some, None, IfSome, if◌then◌else◌}
 use Rattle.std.specs.List.{sum}
 use Rattle.rand_pcg.specs.Lcg.{Lcg}
 use Rattle.hsvi_draw.specs.Draws.{after_draws, draw_at, seeded}
@@ -131,13 +131,24 @@ played_at g k at draws =
     let landing = landing_drawn (row_at g at.state own informed) (after_draws 2 draws) in
     record { state = at.state; own = own; informed = informed; seen = landing.seen; to = landing.to }
 
--- and then the next node and the next point
+-- what is played from there names what the game has, and the own action weighs something in the node's mix
+pub record CanPlay (g : GameData) (k : CertificateData) (at : Standing) (played : Played) : Type 0 where
+  pub own : played.own < g.shape.own_actions
+  pub informed : played.informed < g.shape.informed_actions
+  pub seen : played.seen < g.shape.observations
+  pub to : played.to < g.shape.states
+  pub weight : 1 ≤ (nodes_of k.nodes at.node).mix played.own
+
+-- and then the next node and the next point, and how many draws that takes
 abbrev pub moved : CertificateData → Standing → Played → Lcg → Standing
 moved k at played draws = record {
   state = played.to;
-  node = node_drawn k at.node played (after_draws 3 draws);
-  point = point_drawn k at.point played (after_draws 4 draws);
+  node = node_drawn k at.node played draws;
+  point = point_drawn k at.point played (after_draws 1 draws);
 }
+
+abbrev pub move_draws : CertificateData → Standing → Played → ℕ
+move_draws k at played = 1 + share_draws k at.point played
 
 -- ---- the play
 
@@ -146,7 +157,8 @@ abbrev pub steps_from : GameData → CertificateData → ℕ → Standing → Lc
 steps_from g k zero at draws = []
 steps_from g k (suc n) at draws =
     let played = played_at g k at draws in
-    played ∷ steps_from g k n (moved k at played draws) (after_draws (4 + share_draws k at.point played) draws)
+    let later = after_draws 3 draws in
+    played ∷ steps_from g k n (moved k at played later) (after_draws (move_draws k at played) later)
 
 -- the play of a seed
 abbrev pub simulated : GameData → CertificateData → ℕ → ℕ → Rival → List Played

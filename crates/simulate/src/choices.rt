@@ -8,17 +8,16 @@ ghost use Rattle.std.specs.Prelude.{length, slice_index_or, ◌^◌, ◌<◌, �
 use hsvi_draw::Draw;
 
 /// The place that is drawn over weights: the first at which their running sum passes a number drawn below their sum.
-pub fn draw_place(draw: &mut Draw, weights: &[u128]) -> u32
+pub fn draw_place(draw: &mut Draw, weights: &[u128]) -> usize
     requires some { 1 ≤ sum weights.now }
     requires most { sum weights.now < 2 ^ 128 }
-    requires few { length weights.now < 2 ^ 32 }
     ensures place { result ≡ place_drawn draw.old weights.now }
     ensures moved { draw.new ≡ after_draws 1 draw.old }
     ensures within { result < length weights.now }
     ensures weight { 1 ≤ slice_index_or weights.now result 0 }
 {
     let number = draw.below(sum_of(weights));
-    place_past(weights, number) as u32
+    place_past(weights, number)
 }
 
 /// The sum of weights.

@@ -3,5 +3,6 @@
 
 mod choices;
 mod parts;
+mod weights;
 
 pub use parts::{PlayLog, Played, Rival};

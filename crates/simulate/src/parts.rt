@@ -27,14 +27,14 @@ pub struct Played {
 }
 
 /// A play: its stages, and its discounted gain over the denominator of the discount to the number of stages.
-#[derive(Debug, Drop)]
+#[derive(Drop)]
 pub struct PlayLog {
     pub steps: Vec<Played>,
     pub gain: Fraction,
 }
 
 /// Where a play stands before a stage.
-#[derive(Clone, Copy, Debug, PartialEq, Eq)]
+#[derive(Clone, Copy)]
 pub struct Standing {
     /// The state.
     pub state: u32,
