@@ -3,6 +3,7 @@
 
 mod choices;
 mod parts;
+mod stages;
 mod weights;
 
 pub use parts::{PlayLog, Played, Rival};
