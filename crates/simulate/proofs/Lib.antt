@@ -1,3 +1,3 @@
 pub mod Places
 pub mod Moments
-pub mod Starts
+pub mod Begun

@@ -4,6 +4,7 @@
 mod choices;
 mod parts;
 mod stages;
+mod starts;
 mod weights;
 
 pub use parts::{PlayLog, Played, Rival};
