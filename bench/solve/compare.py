@@ -6,33 +6,46 @@ usage: compare.py OURS OTHER ROUNDS TRIALS [GAME..]
 OURS and OTHER are programs with the commands `solve` and (OTHER) `gen`. Without GAME files the games are those of
 games/ and ten generated ones of sizes 3 to 8. Each game is solved ROUNDS times by each program; the least time counts,
 since other work on the machine only adds to it. A line a game: the exit code, both times in milliseconds, their ratio,
-and the ratio of the greatest memory. The last lines are the ratio of the sums and the geometric mean.
+and the ratio of the greatest memory where the run is long enough to see it. The last line has the ratio of the sums and
+the geometric mean.
 """
 
 import math
-import os
 import pathlib
 import subprocess
 import sys
+import tempfile
 import time
 
 GAMES = pathlib.Path(__file__).resolve().parents[2] / "games"
 
 
 def solve(program, trials, game):
-    """Exit code, bytes, seconds and kilobytes of one run."""
-    read, write = os.pipe()
+    """Exit code, bytes and seconds of one run."""
     started = time.perf_counter()
-    child = subprocess.Popen([program, "solve", "--trials", trials], stdin=subprocess.PIPE, stdout=write)
-    os.close(write)
-    child.stdin.write(game)
-    child.stdin.close()
-    with os.fdopen(read, "rb") as output:
-        text = output.read()
-    _, status, usage = os.wait4(child.pid, 0)
-    taken = time.perf_counter() - started
-    child.returncode = os.waitstatus_to_exitcode(status)
-    return child.returncode, text, taken, usage.ru_maxrss
+    done = subprocess.run([program, "solve", "--trials", trials], input=game, capture_output=True)
+    return done.returncode, done.stdout, time.perf_counter() - started
+
+
+def memory(program, trials, game):
+    """The greatest memory of a run in kilobytes, read again and again until it ends."""
+    with tempfile.TemporaryFile() as text:
+        text.write(game)
+        text.seek(0)
+        child = subprocess.Popen([program, "solve", "--trials", trials], stdin=text, stdout=subprocess.DEVNULL)
+        most = 0
+        while child.poll() is None:
+            most = max(most, high_water(child.pid))
+        return most
+
+
+def high_water(pid):
+    """The greatest memory of a process so far; 0 where it has just ended."""
+    try:
+        with open(f"/proc/{pid}/status") as status:
+            return next((int(line.split()[1]) for line in status if line.startswith("VmHWM")), 0)
+    except OSError:
+        return 0
 
 
 def generated(other):
@@ -51,23 +64,22 @@ def games(other, files):
 
 
 def compare(ours, other, rounds, trials, name, game):
-    """Both least times and the ratio of memory, where both answers agree."""
+    """Both least times, where all answers agree."""
     best = {ours: math.inf, other: math.inf}
-    memory = {}
     for _ in range(rounds):
         answers = {}
         for program in (ours, other):
-            code, text, taken, memory[program] = solve(program, trials, game)
+            code, text, taken = solve(program, trials, game)
             answers[program] = (code, text)
             best[program] = min(best[program], taken)
         if answers[ours] != answers[other]:
             sys.exit(f"{name}: the answers differ")
     mine, its = best[ours], best[other]
-    print(
-        f"{name}: code {answers[ours][0]}, {1000 * mine:.1f} and {1000 * its:.1f} ms, {mine / its:.2f} times, "
-        f"memory {memory[ours] / memory[other]:.2f} times",
-        flush=True,
-    )
+    line = f"{name}: code {answers[ours][0]}, {1000 * mine:.1f} and {1000 * its:.1f} ms, {mine / its:.2f} times"
+    most, its_most = memory(ours, trials, game), memory(other, trials, game)
+    if most and its_most:
+        line += f", memory {most / its_most:.2f} times"
+    print(line, flush=True)
     return mine, its
 
 
