@@ -6,6 +6,8 @@ mod answer;
 mod check;
 mod command;
 mod floor;
+#[cfg(test)]
+mod gen_tests;
 mod generate;
 mod inputs;
 mod options;
