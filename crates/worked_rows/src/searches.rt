@@ -4,7 +4,7 @@ use crate::certificates::three_halved;
 use crate::seeds::{guess, pennies};
 use controller::Outcome;
 use game_model::{Game, GameBuilder, GameFault, Shape};
-use hsvi_trial::{Progress, Search, Solved, solve};
+use hsvi_trial::{Solved, solve};
 use scaled_num::Fraction;
 use std::alloc::Global;
 
@@ -121,31 +121,4 @@ fn guess_the_state_is_closed_without_a_trial_also_with_a_common_factor(rt: HostR
         assert!(rt; starts_at_node(&solved, 0, &[65_536, 0]));
         assert!(rt; starts_at_point(&solved, 2, 65_536));
     }
-}
-
-#[test]
-fn a_search_of_matching_pennies_ends_after_two_visits(rt: HostRuntime) {
-    let Ok(game) = pennies(rt.alloc()) else {
-        panic!(rt; "the game is refused");
-    };
-    let Ok(mut search) = Search::new(rt.alloc(), &game, 100, &USUAL_GAP) else {
-        panic!(rt; "out of memory");
-    };
-    for visits in 0..2 {
-        assert_eq!(rt; search.visits(), visits);
-        assert!(rt; matches!(search.step(), Ok(Progress::Visited)));
-    }
-    let Ok(Progress::Ended(Outcome::Closed)) = search.step() else {
-        panic!(rt; "not closed");
-    };
-    assert_eq!(rt; search.visits(), 2);
-    let Ok(start) = search.finish() else {
-        panic!(rt; "out of memory");
-    };
-    assert_eq!(rt; start.start_node, 2);
-    assert!(rt; start.start_points.as_slice() == [(1, 1)].as_slice());
-    assert_eq!(rt; start.multiple, 1);
-    let solved = search.take(start);
-    assert!(rt; solved.outcome == Outcome::Closed);
-    assert!(rt; has_sizes(&solved, 3, 2, 2));
 }
