@@ -34,7 +34,7 @@ def ask(program, game, certificate):
 def changes(text):
     for place, byte in enumerate(text):
         if byte.isdigit():
-            for digit in "0123456789":
+            for digit in "0123456789".replace(byte, ""):
                 yield place, digit, text[:place] + digit + text[place + 1 :]
 
 
