@@ -7,3 +7,6 @@ pub mod Rules
 pub mod Products
 pub mod One
 pub mod Spanned
+pub mod Changing
+pub mod NodeWorths
+pub mod Lifting

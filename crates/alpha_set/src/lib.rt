@@ -2,6 +2,7 @@
 #![tactic(auto)]
 
 mod laws;
+mod lifts;
 mod nodes;
 mod sets;
 mod stages;
@@ -10,6 +11,6 @@ mod tables;
 mod worth;
 
 pub use game_model::Branch as Step;
-pub use laws::law_worth;
+pub use laws::{law_raised, law_worth};
 pub use nodes::Node;
 pub use sets::{MOST_NODES, NodeSet, PushFault};

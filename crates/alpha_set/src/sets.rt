@@ -1,5 +1,6 @@
 //! The set of a controller's nodes.
 
+ghost use Rattle.alpha_set.specs.Changes.{HasRisen, IsLifted, NodesStand};
 ghost use Rattle.alpha_set.specs.Faults.{NodeFailsFirst};
 ghost use Rattle.alpha_set.specs.Members.{most_nodes, node_data};
 ghost use Rattle.alpha_set.specs.Nodes.{NodeFits, NodeStands, no_node, node_of, node_worth, nodes_of};
@@ -8,14 +9,16 @@ ghost use Rattle.game_model.specs.Bounds.{IsLeastOf};
 ghost use Rattle.game_model.specs.Game.{numbers};
 ghost use Rattle.game_model.specs.Spans.{IsWithinSpan};
 ghost use Rattle.scaled_num.specs.Share.{at};
+ghost use Rattle.std.specs.Bool.{IsTrue};
 ghost use Rattle.std.specs.List.{AllByRecursion};
-ghost use Rattle.std.specs.Prelude.{IfOk, IfSome, IsErrOf, IsNone, IsOk, OnErr, OnOk, [], length, slice_index_or, vec_capacity, vec_len, ℕ, ◌++◌, ◌+◌, ◌<◌, ◌↔◌, ◌∷◌, ◌≡◌, ◌≤◌};
+ghost use Rattle.std.specs.Prelude.{IfOk, IfSome, IsErrOf, IsNone, IsOk, OnErr, OnOk, [], length, slice_index_or, slice_set, vec_capacity, vec_len, ℕ, ◌++◌, ◌+◌, ◌<◌, ◌↔◌, ◌∷◌, ◌≡◌, ◌≤ℤ◌, ◌≤◌};
 
+use crate::lifts::lift_node;
 use crate::nodes::Node;
 use crate::stages::stage_worths;
 use crate::stands::first_fault;
 use crate::worth::{are_narrow, greatest};
-use game_model::Game;
+use game_model::{Game, law_game};
 use std::alloc::{AllocError, Global};
 use std::marker::Model;
 
@@ -123,6 +126,41 @@ impl NodeSet {
         ensures unchanged { OnErr result (self.new ≡ self.old) }
     {
         make_room(&mut self.nodes, more as usize)
+    }
+
+    /// Replaces the node of a number by another. It takes no memory.
+    pub fn replace(&mut self, number: u32, node: Node)
+        requires member { number < length self.old.members }
+        ensures members { self.new.members ≡ slice_set self.old.members number (node_data node) }
+        ensures spare { self.new.spare ≡ self.old.spare }
+    {
+        let narrow = are_narrow(&node.vector);
+        self.nodes[number as usize] = node;
+        self.narrow = self.narrow && narrow;
+    }
+
+    /// Raises the node of a number to what one stage of it gives among the nodes as they are, and answers whether an
+    /// entry rose. Each entry becomes the greater of itself and of the least worth of a stage there, divided by the mix
+    /// total, the row total and the discount's denominator and rounded down; the mix and the steps stay. Where all
+    /// nodes stand, all of them stand after it. It takes no memory.
+    pub fn lift(&mut self, game: &Game, number: u32) -> bool
+        requires member { number < length self.old.members }
+        requires fits { AllByRecursion (NodeFits game.now (length self.old.members)) self.old.members }
+        ensures lifted { IsLifted game.now self.old.members number self.new.members }
+        ensures told { IsTrue result ↔ HasRisen (slice_index_or self.old.members number no_node).vector
+            (slice_index_or self.new.members number no_node).vector }
+        ensures spare { self.new.spare ≡ self.old.spare }
+        ensures count { length self.new.members ≡ length self.old.members }
+        ensures never_lower { (k s : ℕ) → s < game.now.shape.states →
+            (nodes_of self.old.members k).vector s ≤ℤ (nodes_of self.new.members k).vector s }
+        ensures fit { AllByRecursion (NodeFits game.now (length self.new.members)) self.new.members }
+        ensures stand { NodesStand (numbers game.now) self.old.members →
+            NodesStand (numbers game.now) self.new.members }
+    {
+        law_game(game);
+        let risen = lift_node(game, &mut self.nodes, number as usize);
+        self.narrow = self.narrow && are_narrow(&self.nodes[number as usize].vector);
+        risen
     }
 
     /// What the nodes are worth at a mass: the greatest product of a node's vector with the mass, and the first node
