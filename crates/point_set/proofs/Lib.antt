@@ -25,3 +25,6 @@ pub mod FirstBest
 pub mod ToothSplits
 pub mod Spanned
 pub mod Failing
+pub mod Lowering
+pub mod Renewed
+pub mod Settling

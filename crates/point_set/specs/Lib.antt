@@ -9,4 +9,5 @@ pub mod Split
 pub mod Takes
 pub mod Best
 pub mod Tooth
+pub mod Changes
 pub mod Laws

@@ -34,7 +34,7 @@ pub fn corners_with(
 }
 
 /// The state of which a belief is sure.
-fn sure_state(belief: &Belief) -> Option<usize>
+pub fn sure_state(belief: &Belief) -> Option<usize>
     ensures few { length belief.now ≤ most_states }
     ensures sure { IfSome result (IsSure belief.now) }
     ensures unsure { IsNone result → (s : ℕ) → IsSure belief.now s → ⊥ }

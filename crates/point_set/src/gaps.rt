@@ -57,7 +57,7 @@ fn value_of(points: &[Point], number: u32) -> i128
 }
 
 /// Writes the gaps of the points from a number on.
-fn write_gaps(points: &[Point], values: &[i128; MOST_STATES], first: usize, gaps: &mut [i128])
+pub fn write_gaps(points: &[Point], values: &[i128; MOST_STATES], first: usize, gaps: &mut [i128])
     requires states { length values.now ≡ most_states }
     requires count { length gaps.old ≡ length points.now }
     ensures count { length gaps.new ≡ length gaps.old }
@@ -71,7 +71,7 @@ fn write_gaps(points: &[Point], values: &[i128; MOST_STATES], first: usize, gaps
 }
 
 /// The gap of a point at the values of the corners.
-fn gap_of(point: &Point, values: &[i128; MOST_STATES]) -> i128
+pub fn gap_of(point: &Point, values: &[i128; MOST_STATES]) -> i128
     requires states { length values.now ≡ most_states }
     ensures { IsGap values.now (point_data point.now) result }
 {

@@ -1,5 +1,6 @@
-//! Laws of corners, bounds and splits: a mass has one of each.
+//! Laws of corners, bounds and splits, of which a mass has one of each, and of points that are changed.
 
+ghost use Rattle.point_set.specs.Changes.{LoweredStand, ReplacedFit};
 ghost use Rattle.point_set.specs.Laws.{BestAreOne, CornersAreOne, SawteethAreOne, SplitsAreOne, TimesAreOne, ToothSplitsAreOne};
 
 /// A law: a state has at most one current corner, a belief fits into a mass so many times, and a mass has one sawtooth
@@ -15,4 +16,12 @@ pub fn law_bounds()
 pub fn law_splits()
     ensures split { SplitsAreOne }
     ensures tooth { ToothSplitsAreOne }
+{}
+
+/// A law: where all points stand, and one is replaced by a point of the same belief and of no higher value, which stands
+/// among the points as they were, all points stand. Shares of a point in itself are shares in what it was. Where one is
+/// replaced by a point that fits, all points fit.
+pub fn law_lowered()
+    ensures stand { LoweredStand }
+    ensures fit { ReplacedFit }
 {}

@@ -2,7 +2,8 @@
 
 ghost use Rattle.point_set.specs.Best.{IsBest};
 ghost use Rattle.game_model.specs.Limits.{most_states};
-ghost use Rattle.point_set.specs.Corners.{HasCorner, IsCurrentCorner};
+ghost use Rattle.point_set.specs.Changes.{IsSettled, PointsStand};
+ghost use Rattle.point_set.specs.Corners.{HasCorner, IsCurrentCorner, point_at};
 ghost use Rattle.point_set.specs.Faults.{FailsFirst, SplitsHold};
 ghost use Rattle.point_set.specs.Members.{most_points, point_data};
 ghost use Rattle.point_set.specs.Points.{PointFits, PointStands, no_point, point_of, point_worth, points_of};
@@ -12,18 +13,21 @@ ghost use Rattle.point_set.specs.Tooth.{IsToothSplit, items_cost};
 ghost use Rattle.game_model.specs.Game.{numbers};
 ghost use Rattle.game_model.specs.Spans.{IsWithinSpan};
 ghost use Rattle.scaled_num.specs.Sums.{sum_of};
+ghost use Rattle.std.specs.Bool.{IsTrue};
 ghost use Rattle.std.specs.List.{AllByRecursion};
-ghost use Rattle.std.specs.Prelude.{IfOk, IfSome, IsErrOf, IsNone, IsOk, OnErr, OnOk, [], length, slice_index_or, vec_capacity, vec_len, ℕ, ◌++◌, ◌+◌, ◌<◌, ◌↔◌, ◌∷◌, ◌≡◌, ◌≤ℤ◌, ◌≤◌};
+ghost use Rattle.std.specs.Prelude.{IfOk, IfSome, IsErrOf, IsNone, IsOk, OnErr, OnOk, [], length, slice_index_or, slice_set, vec_capacity, vec_len, ℕ, ◌++◌, ◌+◌, ◌<ℤ◌, ◌<◌, ◌↔◌, ◌∷◌, ◌≡◌, ◌≤ℤ◌, ◌≤◌};
 
 use crate::corners::{NO_CORNER, corners_with};
 use crate::gaps::renew_gaps;
 use crate::points::Point;
+use crate::renewing::renew_all;
 use crate::sawtooth::least_bound;
+use crate::settles::settle_point;
 use crate::split::{Split, split_mass};
 use crate::stands::{PointFault, first_fault};
 use crate::teeth::split_tooth;
 use crate::values::worth_after;
-use game_model::{Game, MOST_STATES};
+use game_model::{Game, MOST_STATES, law_game};
 use std::alloc::{AllocError, Global};
 use std::marker::Model;
 
@@ -136,6 +140,47 @@ impl PointSet {
         ensures unchanged { OnErr result (self.new ≡ self.old) }
     {
         make_room(&mut self.points, &mut self.gaps, more as usize)
+    }
+
+    /// Replaces the point of a number by another. It takes no memory.
+    pub fn replace(&mut self, number: u32, point: Point)
+        requires member { number < length self.old.members }
+        ensures members { self.new.members ≡ slice_set self.old.members number (point_data point) }
+        ensures spare { self.new.spare ≡ self.old.spare }
+    {
+        self.points[number as usize] = point;
+        self.corners = renew_all(&self.points, &mut self.gaps);
+    }
+
+    /// Lowers the value of the point of a number to what one stage of it costs among the points as they are, and answers
+    /// whether it fell. The value becomes the lesser of itself and of the greatest worth of a stage over the own
+    /// actions, divided by the mix total, the row total and the discount's denominator and rounded up; the belief, the
+    /// mixes and the shares stay. The splits of the point hold. Where all points stand, all of them stand after it. It
+    /// takes no memory.
+    pub fn settle(&mut self, game: &Game, number: u32) -> bool
+        requires member { number < length self.old.members }
+        requires fits { AllByRecursion (PointFits game.now (length self.old.members)) self.old.members }
+        requires splits { SplitsHold (numbers game.now) (points_of self.old.members)
+            (points_of self.old.members number) }
+        ensures settled { IsSettled game.now self.old.members number self.new.members }
+        ensures told { IsTrue result ↔ ((point_at self.new.members number).value
+            <ℤ (point_at self.old.members number).value) }
+        ensures spare { self.new.spare ≡ self.old.spare }
+        ensures count { length self.new.members ≡ length self.old.members }
+        ensures never_higher { (j : ℕ) → (point_at self.new.members j).value ≤ℤ (point_at self.old.members j).value }
+        ensures beliefs { (j : ℕ) → (point_at self.new.members j).belief ≡ (point_at self.old.members j).belief }
+        ensures fit { AllByRecursion (PointFits game.now (length self.new.members)) self.new.members }
+        ensures stand { PointsStand (numbers game.now) self.old.members →
+            PointsStand (numbers game.now) self.new.members }
+    {
+        law_game(game);
+        settle_point(
+            game,
+            &mut self.points,
+            number as usize,
+            &mut self.corners,
+            &mut self.gaps,
+        )
     }
 
     /// The current corner of state `s`: the first point of least value among those whose belief is sure of `s`. It
