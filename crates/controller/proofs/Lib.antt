@@ -11,5 +11,6 @@ pub mod Renumbering
 pub mod KeptBranches
 pub mod KeptParts
 pub mod KeptRules
+pub mod CutMembers
 pub mod ExportFits
 pub mod ExportStands

@@ -4,5 +4,6 @@ pub mod Members
 pub mod Starts
 pub mod Parts
 pub mod Export
+pub mod Cuts
 pub mod Sums
 pub mod Reached

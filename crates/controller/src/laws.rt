@@ -1,5 +1,7 @@
-//! Laws of certificates: what the members of one that fits have, and that it stands by the rules of its places.
+//! Laws of certificates: what the members of one that fits have, that it stands by the rules of its places, and that
+//! members which are cut out stand.
 
+ghost use Rattle.controller.specs.Cuts.{CutNodesFit, CutNodesStand, CutPointsFit, CutPointsStand};
 ghost use Rattle.controller.specs.Export.{ExportsAreOne};
 ghost use Rattle.controller.specs.Members.{MembersKeep, StandsByRules};
 
@@ -19,4 +21,13 @@ pub fn law_places()
 /// A law: the export of parts is one.
 pub fn law_export()
     ensures one { ExportsAreOne }
+{}
+
+/// A law: where all members stand, those of a set that is closed under steps or shares stand under their new numbers,
+/// which are how many of the set stand before them. Where all members fit, these fit.
+pub fn law_cut()
+    ensures nodes_stand { CutNodesStand }
+    ensures nodes_fit { CutNodesFit }
+    ensures points_stand { CutPointsStand }
+    ensures points_fit { CutPointsFit }
 {}

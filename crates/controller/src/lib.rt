@@ -18,5 +18,5 @@ mod sums;
 pub use bounds::{bound_scale, lower_bound, start_mass, tail, upper_bound};
 pub use certificates::{Certificate, MOST_GAP, MOST_GAP_UNDER, Outcome};
 pub use exporting::export;
-pub use laws::{law_export, law_members, law_places};
+pub use laws::{law_cut, law_export, law_members, law_places};
 pub use starts::{MOST_FROM, MOST_OVER, sum_of_weights};

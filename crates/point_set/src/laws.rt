@@ -18,9 +18,9 @@ pub fn law_splits()
     ensures tooth { ToothSplitsAreOne }
 {}
 
-/// A law: where all points stand, and one is replaced by a point of the same belief and of no higher value, which stands
-/// among the points as they were, all points stand. Shares of a point in itself are shares in what it was. Where one is
-/// replaced by a point that fits, all points fit.
+/// A law: where all points stand, and one is replaced by a point of the same belief and of no higher value, which
+/// stands among the points as they were, all points stand. Shares of a point in itself are shares in what it was. Where
+/// one is replaced by a point that fits, all points fit.
 pub fn law_lowered()
     ensures stand { LoweredStand }
     ensures fit { ReplacedFit }

@@ -152,11 +152,11 @@ impl PointSet {
         self.corners = renew_all(&self.points, &mut self.gaps);
     }
 
-    /// Lowers the value of the point of a number to what one stage of it costs among the points as they are, and answers
-    /// whether it fell. The value becomes the lesser of itself and of the greatest worth of a stage over the own
-    /// actions, divided by the mix total, the row total and the discount's denominator and rounded up; the belief, the
-    /// mixes and the shares stay. The splits of the point hold. Where all points stand, all of them stand after it. It
-    /// takes no memory.
+    /// Lowers the value of the point of a number to what one stage of it costs among the points as they are, and
+    /// answers whether it fell. The value becomes the lesser of itself and of the greatest worth of a stage over the
+    /// own actions, divided by the mix total, the row total and the discount's denominator and rounded up; the belief,
+    /// the mixes and the shares stay. The splits of the point hold. Where all points stand, all of them stand after it.
+    /// It takes no memory.
     pub fn settle(&mut self, game: &Game, number: u32) -> bool
         requires member { number < length self.old.members }
         requires fits { AllByRecursion (PointFits game.now (length self.old.members)) self.old.members }
