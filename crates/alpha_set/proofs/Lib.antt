@@ -8,5 +8,6 @@ pub mod Products
 pub mod One
 pub mod Spanned
 pub mod Changing
+pub mod Moving
 pub mod NodeWorths
 pub mod Lifting

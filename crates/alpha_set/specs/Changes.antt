@@ -1,13 +1,13 @@
 -- Nodes of a set that are changed: one is replaced, and one is raised to what one stage of it gives.
-use Rattle.std.specs.Prelude.{ℕ, ℤ, pos, List, length, ◌≡◌, ◌<◌, ◌*◌, ◌≤ℤ◌, ◌<ℤ◌, slice_index_or, slice_set, unsigned_abs}
+use Rattle.std.specs.Prelude.{ℕ, ℤ, pos, List, cond, length, sum_by, ◌≡◌, ◌<◌, ◌==◌, ◌+◌, ◌*◌, ◌≤ℤ◌, ◌<ℤ◌, slice_index_or, slice_set, unsigned_abs}
 use Rattle.std.specs.Int.{int_max}
 use Rattle.std.specs.List.{AllByRecursion}
 use Rattle.scaled_num.specs.Share.{IsFloor, at}
 use Rattle.game_model.specs.Bounds.{IsLeastOf}
-use Rattle.game_model.specs.Branches.{mix_total}
+use Rattle.game_model.specs.Branches.{Continuation, mix_total}
 use Rattle.game_model.specs.Game.{GameData, numbers}
 use Rattle.game_model.specs.Numbers.{Numbers}
-use Rattle.alpha_set.specs.Nodes.{NodeData, NodeFits, NodeStands, no_node, node_of, node_worth, nodes_of}
+use Rattle.alpha_set.specs.Nodes.{NodeData, NodeFits, NodeStands, no_node, node_of, node_worth, nodes_of, steps_at}
 
 -- each node of a list stands among all of them
 abbrev pub NodesStand : Numbers → List NodeData → Type 0
@@ -49,6 +49,28 @@ pub record IsLifted (g : GameData) (nodes : List NodeData) (number : ℕ) (new :
   pub raised : IsRaisedVector g nodes (slice_index_or nodes number no_node) vector
   pub members : new ≡ slice_set nodes number (with_vector (slice_index_or nodes number no_node) vector)
 
+-- ---- steps that go to another node
+-- the weight that branches give to a member
+abbrev pub weight_in : List Continuation → ℕ → ℕ
+weight_in branches m = sum_by (λ (b : Continuation). cond (m == b.member) b.weight 0) branches
+
+-- weights by member, where what went to one goes to another, beside what went there already
+abbrev pub moved : (ℕ → ℕ) → ℕ → ℕ → ℕ → ℕ
+moved weights from to m = cond (m == from) 0 (cond (m == to) (weights to + weights from) (weights m))
+
+-- the branches of a list name members below a count
+abbrev pub NameBelow : ℕ → List Continuation → Type 0
+NameBelow count branches = AllByRecursion (λ (b : Continuation). b.member < count) branches
+
+-- a node is another one but for its steps to one of so many nodes, which go to another of them; equal steps are added
+pub record IsRenamed (g : Numbers) (count from to : ℕ) (old new : NodeData) : Type 0 where
+  pub vector : new.vector ≡ old.vector
+  pub mix : new.mix ≡ old.mix
+  pub old_named : NameBelow count (node_of old).next
+  pub new_named : NameBelow count (node_of new).next
+  pub goes : (a o m : ℕ) → a < g.own_actions → o < g.observations → m < count →
+      weight_in (steps_at (node_of new) a o) m ≡ moved (weight_in (steps_at (node_of old) a o)) from to m
+
 -- ---- what is proved of them
 -- where one is replaced by a node that fits, all nodes fit
 abbrev pub ReplacedFit : Type 0
@@ -62,3 +84,11 @@ RaisedStand =
     (g : Numbers) (nodes : List NodeData) (number : ℕ) (node : NodeData) → NodesStand g nodes → number < length nodes →
     IsNowhereLower g.states (slice_index_or nodes number no_node).vector node.vector → NodeStands g (nodes_of nodes) (node_of node) →
     NodesStand g (slice_set nodes number node)
+
+-- where the node `to` is nowhere lower than the node `from`, and a node's steps to this go to that, all nodes stand
+abbrev pub RenamedStand : Type 0
+RenamedStand =
+    (g : Numbers) (nodes : List NodeData) (number from to : ℕ) (node : NodeData) → NodesStand g nodes → number < length nodes →
+    from < length nodes → to < length nodes → (from ≡ to → ⊥) →
+    IsNowhereLower g.states (slice_index_or nodes from no_node).vector (slice_index_or nodes to no_node).vector →
+    IsRenamed g (length nodes) from to (slice_index_or nodes number no_node) node → NodesStand g (slice_set nodes number node)

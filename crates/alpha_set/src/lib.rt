@@ -11,6 +11,6 @@ mod tables;
 mod worth;
 
 pub use game_model::Branch as Step;
-pub use laws::{law_raised, law_worth};
+pub use laws::{law_raised, law_renamed, law_worth};
 pub use nodes::Node;
 pub use sets::{MOST_NODES, NodeSet, PushFault};
