@@ -26,5 +26,6 @@ pub mod ToothSplits
 pub mod Spanned
 pub mod Failing
 pub mod Lowering
+pub mod Moving
 pub mod Renewed
 pub mod Settling

@@ -1,6 +1,6 @@
 //! Laws of corners, bounds and splits, of which a mass has one of each, and of points that are changed.
 
-ghost use Rattle.point_set.specs.Changes.{LoweredStand, ReplacedFit};
+ghost use Rattle.point_set.specs.Changes.{LoweredStand, RenamedStand, ReplacedFit};
 ghost use Rattle.point_set.specs.Laws.{BestAreOne, CornersAreOne, SawteethAreOne, SplitsAreOne, TimesAreOne, ToothSplitsAreOne};
 
 /// A law: a state has at most one current corner, a belief fits into a mass so many times, and a mass has one sawtooth
@@ -24,4 +24,11 @@ pub fn law_splits()
 pub fn law_lowered()
     ensures stand { LoweredStand }
     ensures fit { ReplacedFit }
+{}
+
+/// A law: where all points stand, and one point is of the belief of another and has no higher value, the shares of a
+/// point in the other may go to the one, equal shares added: all points stand after it. Done for point after point, it
+/// renames all shares in the other.
+pub fn law_renamed()
+    ensures { RenamedStand }
 {}

@@ -18,7 +18,7 @@ mod times;
 mod values;
 
 pub use game_model::Branch as Share;
-pub use laws::{law_bounds, law_lowered, law_splits};
+pub use laws::{law_bounds, law_lowered, law_renamed, law_splits};
 pub use points::{MOST_SHARE, Point};
 pub use sets::{MOST_POINTS, PointSet, PushFault};
 pub use split::{MOST_ITEMS, Split};
