@@ -1,16 +1,16 @@
 -- A search that holds the seeds and no visit.
-use Rattle.std.proofs.Common.{◌≡◌, ◌⊎◌, ℕ, ◌+◌, ◌*◌, ◌^◌, ◌<◌, ◌≤◌, List, Option, Some, None, [], ◌∷◌, ◌++◌, Bool, true, false, get_or, length, take, inl, inr, refl, ap, ap₂, sym, subst, ◌∙◌, arith, length-append}
+use Rattle.std.proofs.Common.{◌≡◌, ◌⊎◌, ℕ, ◌+◌, ◌^◌, ◌<◌, ◌≤◌, List, [], ◌∷◌, ◌++◌, false, length, take, inl, inr, refl, ap, ap₂, sym, subst, ◌∙◌, arith, length-append}
 use Rattle.std.proofs.Math.Seq.{get_or-append_seam, take-length}
 use Rattle.std.proofs.lemmas.Bool.{false≢true}
 use Rattle.std.proofs.lemmas.Int.{by_lt_z, ints}
 use Rattle.std.proofs.lemmas.List.{get_or-take, get_or_append_left}
 use Rattle.std.specs.List.{AllByRecursion}
-use Rattle.std.specs.Prelude.{ℤ, IsTrue, pos, slice_index_or, ◌≤ℤ◌}
+use Rattle.std.specs.Prelude.{ℤ, pos, slice_index_or, ◌≤ℤ◌}
 use Rattle.scaled_num.specs.Sums.{sum_of}
 use Rattle.alpha_set.specs.Members.{most_nodes}
 use Rattle.alpha_set.specs.Nodes.{NodeData, NodeFits, NodeStands, nodes_of}
-use Rattle.backup.specs.Seeds.{AreSeedNodes, AreSeedPoints, IsRootPoint, IsSure}
-use Rattle.backup.proofs.SeedPoints.{corner-at, corner_point, corners-count, corners_of}
+use Rattle.backup.specs.Seeds.{AreSeedPoints, IsRootPoint, IsSure}
+use Rattle.backup.proofs.SeedPoints.{corner-at, corners-count, corners_of}
 use Rattle.backup.proofs.Sure.{total-more, total-one}
 use Rattle.belief.specs.Beliefs.{corner_of}
 use Rattle.belief.specs.Mixes.{pure_mixes}
@@ -20,14 +20,14 @@ use Rattle.point_set.specs.Members.{most_points}
 use Rattle.point_set.specs.Corners.{point_at}
 use Rattle.point_set.specs.Points.{PointData, PointFits, PointStands, no_point, points_of}
 use Rattle.simplex.specs.Solver.{State}
-use Rattle.hsvi_trial.specs.Courses.{GoesOn, LeadsIn}
+use Rattle.hsvi_trial.specs.Courses.{LeadsIn}
 use Rattle.hsvi_trial.specs.Data.{SearchState}
 use Rattle.hsvi_trial.specs.Founds.{HasStart}
 use Rattle.hsvi_trial.specs.Held.{HasRooms, IsHeld}
 use Rattle.hsvi_trial.specs.Journal.{AreHeld}
 use Rattle.hsvi_trial.specs.Least.{NoneIsAt}
 use Rattle.hsvi_trial.specs.Run.{IsRunSoFar, IsWithinLimits, Task}
-use Rattle.hsvi_trial.specs.Sets.{AreSeedSets, AreStanding, Sets, sets_after}
+use Rattle.hsvi_trial.specs.Sets.{AreSeedSets, AreStanding, Sets}
 use Rattle.hsvi_trial.specs.declared.courses.Course.{Course}
 use Rattle.hsvi_trial.specs.declared.courses.Next.{Next}
 use Rattle.hsvi_trial.specs.declared.courses.Next.TheVariants.{Down}

@@ -1,43 +1,16 @@
--- Where a journal goes on: a cursor that its visits move. The trials of a run so far keep to it.
+-- The trials of a run so far keep to the cursor that its visits move.
 use Rattle.std.proofs.Common.{◌≡◌, ℕ, suc, ◌+◌, ◌<◌, List, Option, Some, None, [], ◌∷◌, ◌++◌, true, false, length, refl, ap, sym, subst, ◌∙◌, arith, add-one}
-use Rattle.std.specs.Prelude.{ℤ, IsSome, map, reverse, slice_index_or}
+use Rattle.std.specs.Prelude.{IsSome, map, reverse, slice_index_or}
 use Rattle.std.specs.List.{AllByRecursion, range_with_len}
 use Rattle.std.proofs.lemmas.Bool.{both_ways}
 use Rattle.std.proofs.lemmas.List.{append-nil, append_assoc, length-reverse, reverse-append}
 use Rattle.game_model.proofs.Front.{length-map}
 use Rattle.game_model.specs.Game.{GameData}
+use Rattle.hsvi_trial.specs.Cursors.{Back, Cursor, Down, Place, at_end, moved, start, turned}
 use Rattle.hsvi_trial.specs.Next.{visits_of}
 use Rattle.hsvi_trial.specs.Trials.{AreTrials, AreTrialsSoFar, BeginsAt, GoOn, IsBackIn, IsDownIn, IsEnded, IsTrial, IsTrialFront, IsWayDown, place_of}
 use Rattle.hsvi_trial.specs.declared.visits.Visit.{Visit}
 use Rattle.hsvi_trial.proofs.OneLists.{head-same, some-none, tail-same}
-
-abbrev pub Place : Type 0
-Place = ℕ × List ℤ
-
--- a trial goes down below these places, the last one first; or goes back over those ahead
-pub data Cursor : Type 0 where
-  Down : (trial : ℕ) (behind : List Place) → Cursor
-  Back : (trial : ℕ) (ahead : List Place) → Cursor
-
--- after a visit on the way down, by what it chose
-abbrev pub turned : ℕ → List Place → Option (ℕ × ℕ) → Cursor
-turned n places None = Back n places
-turned n places (Some pair) = Down n places
-
--- after a visit on the way back, by what is ahead of it
-abbrev pub gone_back : ℕ → List Place → Cursor
-gone_back n [] = Down n []
-gone_back n (here ∷ []) = Down (suc n) []
-gone_back n (here ∷ there ∷ ahead) = Back n (there ∷ ahead)
-
-abbrev pub moved : Cursor → Visit → Cursor
-moved (Down n behind) visit = turned n (place_of visit ∷ behind) visit.chosen
-moved (Back n ahead) visit = gone_back n ahead
-
--- the cursor after visits
-abbrev pub at_end : Cursor → List Visit → Cursor
-at_end cursor [] = cursor
-at_end cursor (visit ∷ visits) = at_end (moved cursor visit) visits
 
 -- a visit below places of the way down
 pub record IsNextDown (g : GameData) (n : ℕ) (behind : List Place) (visit : Visit) : Type 0 where
@@ -114,7 +87,7 @@ last-turns visits ended = subst LastTurns (sym ended.1.1) (at ended.0)
     at (x ∷ y ∷ earlier) = at (y ∷ earlier)
 
 -- the cursor after a visit that chose
-goes-on : (n : ℕ) (places : List Place) (chosen : Option (ℕ × ℕ)) → IsSome chosen → turned n places chosen ≡ Down n places
+pub goes-on : (n : ℕ) (places : List Place) (chosen : Option (ℕ × ℕ)) → IsSome chosen → turned n places chosen ≡ Down n places
 goes-on n places None some = absurd (both_ways false refl some)
 goes-on n places (Some pair) some = refl
 
@@ -157,7 +130,7 @@ end-back n visit (next ∷ later) = end-back n next later
 way-walks : (g : GameData) (n : ℕ) (visits : List Visit) → IsWayDown g n visits → Walks g (Down n []) visits
 way-walks g n visits way = walks-down g n [] visits way.each (deep-from visits 0 way.depths) (λ _. way.first) (each-goes_on visits way.go_on)
 
-way-ends : (g : GameData) (n : ℕ) (visits : List Visit) → IsWayDown g n visits → IsEnded visits → at_end (Down n []) visits ≡ Back n (reverse (map place_of visits))
+pub way-ends : (g : GameData) (n : ℕ) (visits : List Visit) → IsWayDown g n visits → IsEnded visits → at_end (Down n []) visits ≡ Back n (reverse (map place_of visits))
 way-ends g n visits way ended =
     end-down n [] visits (each-goes_on visits way.go_on) (last-turns visits ended) ∙ ap (Back n) (append-nil (reverse (map place_of visits)))
 
@@ -223,10 +196,6 @@ trials-end g n (trial ∷ trials) each =
     ∙ ap (λ (cursor : Cursor). at_end cursor (visits_of trials)) (trial-ends g n trial each.0)
     ∙ trials-end g (suc n) trials each.1
     ∙ ap (λ (m : ℕ). Down m []) (and-one n (length trials))
-
--- the cursor of a search before any visit
-abbrev pub start : Cursor
-start = Down 0 []
 
 pub so-far-from : (g : GameData) (trials : List (List Visit)) → AreTrials g trials → AreTrialsFrom g 0 trials
 so-far-from g trials whole = trials-from g trials 0 (λ number l. subst (λ (m : ℕ). IsTrial g m (slice_index_or trials number [])) (plain number) (whole.each number l))

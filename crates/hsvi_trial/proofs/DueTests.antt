@@ -1,5 +1,5 @@
 -- The tests of what is due.
-use Rattle.std.proofs.Common.{◌≡◌, ◌⊎◌, ℕ, ◌<◌, List, Bool, true, false, length, refl, ap, sym, subst, ◌∙◌, arith}
+use Rattle.std.proofs.Common.{◌≡◌, ℕ, List, Bool, true, false, length, refl, sym, subst, arith}
 use Rattle.std.specs.Prelude.{ℤ, IsTrue, not, ◌↔◌, ◌≤ℤ◌, ◌<ℤ◌}
 use Rattle.std.proofs.Math.Dec.{T}
 use Rattle.std.proofs.lemmas.Int.{ints}

@@ -1,8 +1,8 @@
 -- A pair has one excess, or none where its mass is zero.
-use Rattle.std.proofs.Common.{◌≡◌, ◌<◌, ℕ, Bool, true, false, List, refl, ap, ap₂, sym, subst, ◌∙◌, arith}
+use Rattle.std.proofs.Common.{◌≡◌, ◌<◌, ℕ, false, List, ap, ap₂, sym, subst, ◌∙◌, arith}
 use Rattle.std.proofs.lemmas.Bool.{false≢true}
 use Rattle.std.proofs.lemmas.Int.{ints}
-use Rattle.std.specs.Prelude.{ℤ, pos, IsTrue, ◌+ℤ◌, ◌-ℤ◌, ◌*ℤ◌, ◌≤ℤ◌, ◌<ℤ◌}
+use Rattle.std.specs.Prelude.{ℤ, pos, IsTrue, ◌-ℤ◌, ◌*ℤ◌, ◌≤ℤ◌}
 use Rattle.scaled_num.specs.Share.{IsFloor, at}
 use Rattle.scaled_num.specs.Sums.{sum_of}
 use Rattle.scaled_num.proofs.OneShare.{floor-one}

@@ -1,9 +1,8 @@
 -- What a search holds is kept by a visit, and serves the calls of one.
-use Rattle.std.proofs.Common.{◌≡◌, ◌⊎◌, ℕ, zero, suc, ◌+◌, ◌*◌, ◌-◌, ◌^◌, ◌<◌, ◌≤◌, List, Option, Some, None, [], ◌∷◌, ◌++◌, Bool, true, false, cond, ◌==◌, length, inl, inr, refl, ap, sym, subst, ◌∙◌, arith, length-append}
-use Rattle.std.proofs.lemmas.Bool.{ne_eqb}
-use Rattle.std.proofs.lemmas.List.{get_or_append_left, get_or_default}
+use Rattle.std.proofs.Common.{◌≡◌, ℕ, ◌+◌, ◌*◌, ◌-◌, ◌<◌, ◌≤◌, List, Option, Some, None, [], ◌∷◌, ◌++◌, Bool, true, false, cond, ◌==◌, length, refl, ap, sym, subst, arith, length-append}
+use Rattle.std.proofs.lemmas.List.{get_or_append_left}
 use Rattle.std.specs.List.{AllByRecursion}
-use Rattle.std.specs.Prelude.{ℤ, IsFalse, IsTrue, slice_index_or}
+use Rattle.std.specs.Prelude.{ℤ}
 use Rattle.scaled_num.proofs.Sums.{each-append, each-at}
 use Rattle.alpha_set.specs.Members.{most_nodes}
 use Rattle.alpha_set.specs.Nodes.{NodeData, NodeFits}
@@ -15,11 +14,11 @@ use Rattle.point_set.specs.Points.{PointData, PointFits, no_point}
 use Rattle.point_set.proofs.Fitting.{fits-more}
 use Rattle.simplex.specs.Solver.{State}
 use Rattle.stage_game.specs.Asked.{BeliefFits, NodesServe, PointsServe}
-use Rattle.hsvi_trial.specs.Courses.{BeginsTrial, GoesOn, HasPlace, IsPlace, IsPlaceDown, IsPlaceOf, course_after, next_after}
+use Rattle.hsvi_trial.specs.Courses.{BeginsTrial, GoesOn, HasPlace, IsPlace, course_after, next_after}
 use Rattle.hsvi_trial.specs.Data.{SearchState}
 use Rattle.hsvi_trial.specs.Due.{KeepsNode, KeepsPoint}
 use Rattle.hsvi_trial.specs.Held.{HasRooms, IsHeld, NextFits, VisitFits}
-use Rattle.hsvi_trial.specs.Next.{GoesBack, GoesDown, visits_of}
+use Rattle.hsvi_trial.specs.Next.{visits_of}
 use Rattle.hsvi_trial.specs.Run.{IsRunSoFar, Task}
 use Rattle.hsvi_trial.specs.Sets.{AreStanding, Sets}
 use Rattle.hsvi_trial.specs.Starts.{AreOpen}
@@ -30,7 +29,7 @@ use Rattle.hsvi_trial.specs.declared.courses.Place.{Place}
 use Rattle.hsvi_trial.specs.declared.visits.Visit.{Visit}
 use Rattle.hsvi_trial.proofs.Products.{node-fits-more}
 use Rattle.hsvi_trial.proofs.Short.{few-trials, runs-are-short}
-use Rattle.hsvi_trial.proofs.Stepping.{IsStepped, IsVisitAt, inside-back, stepped}
+use Rattle.hsvi_trial.proofs.Stepping.{IsVisitAt, inside-back, stepped}
 
 -- ---- what a visit keeps goes on to serve
 pub nodes-go-on : (g : GameData) (before after : List NodeData) (belief : List ℤ) (node : NodeData) (number : Option ℕ) → NodesServe g before → KeepsNode before after belief node number → NodeFits g (length before) node → NodesServe g after

@@ -34,6 +34,8 @@ pub mod OneNext
 pub mod OneStarts
 pub mod Cursors
 pub mod OneBeginnings
+pub mod Raised
+pub mod Repeating
 pub mod OneRuns
 pub mod ShortRuns
 pub mod Fronts

@@ -12,7 +12,8 @@ use Rattle.hsvi_trial.specs.Run.{IsRunSoFar, Task}
 use Rattle.hsvi_trial.specs.Sets.{Sets, kept_nodes, kept_points, sets_after}
 use Rattle.hsvi_trial.specs.Trials.{place_of}
 use Rattle.hsvi_trial.specs.declared.visits.Visit.{Visit}
-use Rattle.hsvi_trial.proofs.Cursors.{Back, Cursor, Down, Fits, IsNextBack, IsNextDown, Place, Walks, at_end, end-append, gone_back, moved, so-far-walks, start, turned, walks-at}
+use Rattle.hsvi_trial.specs.Cursors.{Back, Cursor, Down, Place, at_end, gone_back, moved, start, turned}
+use Rattle.hsvi_trial.proofs.Cursors.{Fits, IsNextBack, IsNextDown, Walks, end-append, so-far-walks, walks-at}
 use Rattle.hsvi_trial.proofs.Growing.{kept_nodes-append, kept_points-append}
 use Rattle.hsvi_trial.proofs.OneLists.{head-same, none-some, tail-same}
 use Rattle.hsvi_trial.proofs.OneNext.{next-one}
@@ -68,11 +69,11 @@ last-or_none (x ∷ xs) = inr (with-last x xs)
         record { earlier = x ∷ rest.earlier; last = rest.last; same = ap (λ (vs : List Visit). x ∷ vs) rest.same }
 
 -- the places of a way down
-abbrev behind-of : Cursor → List Place
+abbrev pub behind-of : Cursor → List Place
 behind-of (Down n behind) = behind
 behind-of (Back n ahead) = []
 
-unlike : (m : ℕ) (ahead : List Place) (n : ℕ) (behind : List Place) → Back m ahead ≡ Down n behind → ⊥
+pub unlike : (m : ℕ) (ahead : List Place) (n : ℕ) (behind : List Place) → Back m ahead ≡ Down n behind → ⊥
 unlike m ahead n behind e = cc
 
 by-chosen : (m : ℕ) (there : Place) (places : List Place) (chosen : Option (ℕ × ℕ)) (n : ℕ) (here : Place) (behind : List Place) →

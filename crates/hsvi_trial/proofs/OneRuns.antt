@@ -15,7 +15,8 @@ use Rattle.hsvi_trial.specs.Run.{HasEnded, IsOutcome, IsRunSoFar, IsSolveRun, So
 use Rattle.hsvi_trial.specs.Sets.{AreSeedSets, Sets, sets_after}
 use Rattle.hsvi_trial.specs.Starts.{AreOpen, IsStart, StartData}
 use Rattle.hsvi_trial.specs.declared.visits.Visit.{Visit}
-use Rattle.hsvi_trial.proofs.Cursors.{Cursor, Down, Fits, at_end, so-far-end, so-far-walks, start, walks-at}
+use Rattle.hsvi_trial.specs.Cursors.{Cursor, Down, at_end, start}
+use Rattle.hsvi_trial.proofs.Cursors.{Fits, so-far-end, so-far-walks, walks-at}
 use Rattle.hsvi_trial.proofs.OneBeginnings.{HasLast, begins-same, last-or_none, next-same, same-before, whole-sets}
 use Rattle.hsvi_trial.proofs.OneStarts.{open-closed, start-one}
 use Rattle.hsvi_trial.proofs.OneVisits.{AreOne, VisitsAreOne}

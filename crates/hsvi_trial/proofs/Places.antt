@@ -41,7 +41,7 @@ next-down g Leads journal trial first belief v by goes is = record {
   chose = λ earlier last e. by (visits_of goes.trials ++ earlier) last belief (goes.leads earlier last e);
 }
 
-longer : (journal : List Visit) (trials : List (List Visit)) (visits : List Visit) (v : Visit) → journal ≡ visits_of trials ++ visits → journal ++ v ∷ [] ≡ visits_of trials ++ (visits ++ v ∷ [])
+pub longer : (journal : List Visit) (trials : List (List Visit)) (visits : List Visit) (v : Visit) → journal ≡ visits_of trials ++ visits → journal ++ v ∷ [] ≡ visits_of trials ++ (visits ++ v ∷ [])
 longer journal trials visits v joined = ap (λ (vs : List Visit). vs ++ v ∷ []) joined ∙ append_assoc (visits_of trials) visits (v ∷ [])
 
 -- ---- trials so far with one more visit

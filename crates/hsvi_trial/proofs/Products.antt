@@ -1,13 +1,12 @@
 -- The entries of a node's vector are small.
-use Rattle.std.proofs.Common.{◌≡◌, ℕ, ◌^◌, ◌≤◌, List, length, sym, ◌∙◌, arith, subst}
-use Rattle.std.specs.Prelude.{ℤ, pos, neg_ℤ, ◌≤ℤ◌, unsigned_abs}
+use Rattle.std.proofs.Common.{ℕ, ◌^◌, ◌≤◌, arith}
+use Rattle.std.specs.Prelude.{ℤ, pos, neg_ℤ, unsigned_abs}
 use Rattle.std.specs.List.{AllByRecursion}
 use Rattle.std.proofs.lemmas.Int.{ints}
 use Rattle.game_model.specs.Game.{GameData, IsWithin, span}
 use Rattle.game_model.specs.Branches.{IsBranch, mix_total}
 use Rattle.game_model.specs.Game.{numbers}
 use Rattle.game_model.proofs.Pay.{each-from}
-use Rattle.alpha_set.specs.Members.{most_nodes}
 use Rattle.alpha_set.specs.Nodes.{NodeData, NodeFits}
 
 small-entry : (V : ℕ) (x : ℤ) → V ≤ 2 ^ 66 → IsWithin (neg_ℤ (pos V)) (pos V) x → unsigned_abs x ≤ 2 ^ 70

@@ -1,5 +1,5 @@
 -- What is remembered stays right while visits keep members, and may be used where there are as many.
-use Rattle.std.proofs.Common.{◌≡◌, ℕ, ◌+◌, ◌<◌, ◌≤◌, List, Option, Some, None, [], ◌∷◌, ◌++◌, length, refl, ap, sym, subst, ◌∙◌, arith, length-append}
+use Rattle.std.proofs.Common.{◌≡◌, ℕ, ◌+◌, List, Option, Some, None, [], ◌∷◌, length, ap, sym, subst, arith, length-append}
 use Rattle.std.proofs.lemmas.List.Elements.{All-set}
 use Rattle.std.specs.List.{All}
 use Rattle.std.specs.Prelude.{ℤ, IfSome, slice_set}

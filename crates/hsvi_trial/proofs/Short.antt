@@ -1,22 +1,20 @@
 -- A run so far has few visits: at most 130 in each trial, and no more trials than its budget.
-use Rattle.std.proofs.Common.{◌≡◌, ◌⊎◌, ℕ, zero, suc, ◌+◌, ◌*◌, ◌<◌, ◌≤◌, List, Some, None, [], ◌∷◌, ◌++◌, Bool, true, false, take, drop, length, inl, inr, refl, ap, sym, subst, ◌∙◌, arith, length-append, add-one}
+use Rattle.std.proofs.Common.{◌≡◌, ◌⊎◌, ℕ, zero, suc, ◌+◌, ◌*◌, ◌<◌, ◌≤◌, List, [], ◌∷◌, ◌++◌, Bool, true, false, take, drop, length, inl, inr, refl, ap, sym, subst, ◌∙◌, arith, length-append}
 use Rattle.std.proofs.Math.Bool.{false≢true}
 use Rattle.std.proofs.Math.Seq.{drop-cons}
 use Rattle.std.proofs.lemmas.Bool.{ltb-true}
 use Rattle.std.proofs.lemmas.List.{append_assoc, append-nil, length-map, length-reverse, take-append-drop}
 use Rattle.std.proofs.lemmas.List.FromFn.{get_or-range_with_len}
-use Rattle.std.specs.Prelude.{ℤ, IsFalse, IsSome, IsTrue, ltb, map, not, reverse, slice_index_or, ◌&&◌}
-use Rattle.std.specs.List.{AllByRecursion}
+use Rattle.std.specs.Prelude.{ℤ, IsSome, ltb, map, not, reverse, slice_index_or, ◌&&◌}
 use Rattle.scaled_num.proofs.Each.{get-map}
-use Rattle.scaled_num.specs.Sums.{below}
 use Rattle.game_model.specs.Game.{GameData, numbers}
 use Rattle.hsvi_trial.specs.Journal.{cut_before}
-use Rattle.hsvi_trial.specs.Laws.{RunsAreShort, most_visits}
+use Rattle.hsvi_trial.specs.Laws.{RunsAreShort}
 use Rattle.hsvi_trial.specs.Next.{visits_of}
 use Rattle.hsvi_trial.specs.RightVisit.{IsRightVisit, looks_on}
 use Rattle.hsvi_trial.specs.Run.{IsRunSoFar, Task}
 use Rattle.hsvi_trial.specs.Sets.{Sets, sets_after}
-use Rattle.hsvi_trial.specs.Trials.{AreTrials, IsDownIn, IsEnded, IsTrial, IsTrialFront, IsWayDown, place_of}
+use Rattle.hsvi_trial.specs.Trials.{AreTrials, IsTrial, IsTrialFront, IsWayDown, place_of}
 use Rattle.hsvi_trial.specs.declared.visits.Visit.{Visit}
 
 -- ---- a visit that chose is above the greatest depth

@@ -16,7 +16,8 @@ use Rattle.hsvi_trial.specs.Sets.{Sets, sets_after}
 use Rattle.hsvi_trial.specs.Thresholds.{most_depth}
 use Rattle.hsvi_trial.specs.Trials.{IsTrial, IsTrialFront, place_of}
 use Rattle.hsvi_trial.specs.declared.visits.Visit.{Visit}
-use Rattle.hsvi_trial.proofs.Cursors.{AreDeepFrom, AreTrialsFrom, Cursor, Down, EachGoesOn, Fits, LastTurns, Place, at_end, deep-from, each-goes_on, end-append, last-turns, so-far-end, so-far-from, so-far-walks, start, trial-ends, Walks, walks-at}
+use Rattle.hsvi_trial.specs.Cursors.{Cursor, Down, Place, at_end, start}
+use Rattle.hsvi_trial.proofs.Cursors.{AreDeepFrom, AreTrialsFrom, EachGoesOn, Fits, LastTurns, deep-from, each-goes_on, end-append, last-turns, so-far-end, so-far-from, so-far-walks, trial-ends, Walks, walks-at}
 
 -- a visit that chose is above the greatest depth
 abbrev IsShallow : Visit → Type 0

@@ -1,20 +1,19 @@
 -- The start of sets: it exists, and a test of what its parts cost tells whether its bounds are near.
-use Rattle.std.proofs.Common.{◌≡◌, ◌⊎◌, ℕ, zero, suc, ◌*◌, ◌/◌, ◌<◌, ◌≤◌, List, [], ◌∷◌, drop, length, map, inl, inr, refl, ap, ap₂, sym, subst, ◌∙◌, arith}
+use Rattle.std.proofs.Common.{◌≡◌, ℕ, zero, suc, ◌*◌, ◌/◌, ◌<◌, List, [], ◌∷◌, drop, length, map, inl, inr, refl, ap, ap₂, sym, subst, ◌∙◌, arith}
 use Rattle.std.proofs.Math.Nat.{dvd-mul_right, dvd_of_mul-dvd-mul_left, eq-zero_of_zero-dvd, mul-div_cancel'}
 use Rattle.std.proofs.lemmas.Bool.{cases_order}
 use Rattle.std.proofs.lemmas.Int.{ints, unsigned_abs-mul}
 use Rattle.std.specs.Int.{◌∣◌}
 use Rattle.std.specs.List.{AllByRecursion}
-use Rattle.std.specs.Prelude.{ℤ, pos, neg_ℤ, slice_index_or, unsigned_abs, ◌+ℤ◌, ◌-ℤ◌, ◌*ℤ◌, ◌≤ℤ◌, ◌<ℤ◌, ◌↔◌}
+use Rattle.std.specs.Prelude.{ℤ, pos, slice_index_or, unsigned_abs, ◌+ℤ◌, ◌-ℤ◌, ◌*ℤ◌, ◌≤ℤ◌, ◌<ℤ◌, ◌↔◌}
 use Rattle.scaled_num.specs.Share.{at}
 use Rattle.scaled_num.specs.Sums.{total}
 use Rattle.scaled_num.proofs.Divisors.{HasDivisor, divisor-of}
 use Rattle.scaled_num.proofs.Each.{each-by-place, each-of-map}
 use Rattle.scaled_num.proofs.Products.{mul-addℤ, mulℤ_assoc}
-use Rattle.scaled_num.proofs.Sums.{each-at, each-map}
+use Rattle.scaled_num.proofs.Sums.{each-map}
 use Rattle.alpha_set.specs.Worth.{IsWorth}
 use Rattle.alpha_set.proofs.One.{worth-one}
-use Rattle.belief.specs.Reduced.{AreLowest}
 use Rattle.belief.proofs.Lowest.{multiple, quotients-coprime}
 use Rattle.controller.specs.Certificates.{FractionData, first_total}
 use Rattle.game_model.specs.Branches.{mix_total}

@@ -1,8 +1,7 @@
 -- What a search holds after a step, from what its calls say.
-use Rattle.std.proofs.Common.{◌≡◌, ◌⊎◌, ℕ, ◌+◌, ◌<◌, ◌≤◌, ◌&&◌, List, Option, Some, None, [], ◌∷◌, ◌++◌, Bool, true, false, not, length, inl, inr, refl, ap, ap₂, sym, subst, ◌∙◌, arith, length-append}
+use Rattle.std.proofs.Common.{◌≡◌, ◌⊎◌, ℕ, ◌+◌, ◌≤◌, ◌&&◌, List, Option, Some, None, [], ◌∷◌, ◌++◌, Bool, true, false, not, length, inl, inr, refl, ap, ap₂, sym, subst, ◌∙◌, arith, length-append}
 use Rattle.std.proofs.lemmas.Bool.{false≢true}
-use Rattle.std.proofs.lemmas.List.{append-nil}
-use Rattle.std.specs.Prelude.{ℤ, IfSome, IsFalse, IsTrue, ◌↔◌}
+use Rattle.std.specs.Prelude.{ℤ, IfSome, IsTrue, ◌↔◌}
 use Rattle.alpha_set.specs.Nodes.{NodeData, NodeFits, NodeStands, node_of, nodes_of}
 use Rattle.controller.specs.Certificates.{Ending}
 use Rattle.game_model.specs.Game.{IsGame, numbers}
@@ -13,7 +12,7 @@ use Rattle.hsvi_trial.specs.Courses.{BeginsTrial, GoesOn, HasPlace, IsPlace, Lea
 use Rattle.hsvi_trial.specs.Data.{EndsWith, SearchState}
 use Rattle.hsvi_trial.specs.Due.{IsCut, IsNodeRefused, KeepsNode, KeepsPoint}
 use Rattle.hsvi_trial.specs.Ends.{IsEnd, IsOnward}
-use Rattle.hsvi_trial.specs.Held.{HasRooms, IsHeld}
+use Rattle.hsvi_trial.specs.Held.{IsHeld}
 use Rattle.hsvi_trial.specs.Looks.{IsLook, looks_from}
 use Rattle.hsvi_trial.specs.Next.{GoesDown, visits_of}
 use Rattle.hsvi_trial.specs.RightVisit.{IsMade, Made, view_of}

@@ -1,12 +1,12 @@
 -- A search that has made one more visit.
-use Rattle.std.proofs.Common.{◌≡◌, ◌⊎◌, ℕ, zero, suc, ◌+◌, ◌-◌, ◌<◌, ◌≤◌, List, Option, Some, None, [], ◌∷◌, ◌++◌, Bool, true, false, cond, ◌==◌, length, inl, inr, refl, ap, ap₂, sym, subst, ◌∙◌, arith, length-append, add-one}
+use Rattle.std.proofs.Common.{◌≡◌, ◌⊎◌, ℕ, zero, suc, ◌+◌, ◌-◌, ◌<◌, ◌≤◌, List, Option, Some, None, [], ◌∷◌, ◌++◌, Bool, false, cond, ◌==◌, length, inl, inr, refl, ap, ap₂, sym, subst, ◌∙◌, arith, length-append}
 use Rattle.std.proofs.lemmas.Bool.{false≢true, ne_eqb}
 use Rattle.std.proofs.lemmas.List.{append_assoc, get_or_default}
-use Rattle.std.specs.Prelude.{ℤ, IsFalse, IsSome, IsTrue, slice_index_or}
+use Rattle.std.specs.Prelude.{ℤ, IsSome, IsTrue, slice_index_or}
 use Rattle.game_model.specs.Game.{GameData}
 use Rattle.hsvi_trial.specs.Courses.{BeginsTrial, GoesOn, IsPlace, IsPlaceDown, IsPlaceOf, LeadsIn, course_after, next_after}
 use Rattle.hsvi_trial.specs.Growth.{IsNextVisit}
-use Rattle.hsvi_trial.specs.Next.{GoesBack, GoesDown, IsOnWayBack, places_back, visits_of}
+use Rattle.hsvi_trial.specs.Next.{GoesBack, GoesDown, places_back, visits_of}
 use Rattle.hsvi_trial.specs.RightVisit.{IsNextBelief, IsRightVisit}
 use Rattle.hsvi_trial.specs.Run.{IsRunSoFar, Task}
 use Rattle.hsvi_trial.specs.Sets.{Sets, sets_after}
@@ -32,7 +32,7 @@ pub record IsVisitAt (task : Task) (sets new : Sets) (trial : ℕ) (place : Plac
   pub leads : (belief : List ℤ) → next ≡ Some belief → IsNextBelief task.game sets visit belief
   pub stops : next ≡ None → visit.chosen ≡ None
 
-leads-by : (g : GameData) (seeds sets : Sets) → LeadsBy (LeadsIn g seeds sets)
+pub leads-by : (g : GameData) (seeds sets : Sets) → LeadsBy (LeadsIn g seeds sets)
 leads-by g seeds sets earlier last belief leads = subst (λ (o : Option (ℕ × ℕ)). IsSome o) (sym leads.chosen) refl
 
 -- the form of trials with the visit, and where the search goes on then

@@ -1,8 +1,8 @@
 -- A run so far with one more visit.
-use Rattle.std.proofs.Common.{◌≡◌, ◌⊎◌, ℕ, suc, ◌+◌, ◌<◌, ◌≤◌, List, Option, Some, None, [], ◌∷◌, ◌++◌, Bool, true, false, cond, take, drop, length, inl, inr, refl, ap, ap₂, sym, subst, ◌∙◌, arith, length-append}
+use Rattle.std.proofs.Common.{◌≡◌, ℕ, suc, ◌+◌, ◌<◌, ◌≤◌, List, Option, Some, None, [], ◌∷◌, ◌++◌, Bool, true, false, cond, take, length, inl, inr, refl, ap, ap₂, sym, subst, ◌∙◌, arith, length-append}
 use Rattle.std.proofs.Math.Seq.{take-length}
 use Rattle.std.proofs.lemmas.List.{append-nil, append_assoc}
-use Rattle.std.specs.Prelude.{ℤ, IsTrue, is_some, nat_eq, slice_index_or}
+use Rattle.std.specs.Prelude.{ℤ, IsTrue, is_some, nat_eq}
 use Rattle.std.proofs.lemmas.Bool.{ne_eqb}
 use Rattle.alpha_set.specs.Nodes.{NodeData}
 use Rattle.point_set.specs.Points.{PointData}
@@ -33,7 +33,7 @@ not_cut : (cut : Bool) (rest : List Visit) (v : Visit) → cut_before cut (rest 
 not_cut cut rest v =
     ap (λ (b : Bool). cond b cut false) (ne_eqb (length (rest ++ v ∷ [])) 0 (λ e. omega (arith, length-append rest (v ∷ []))))
 
-no_cut : (rest : List Visit) → cut_before false rest ≡ false
+pub no_cut : (rest : List Visit) → cut_before false rest ≡ false
 no_cut rest = both (nat_eq (length rest) 0)
   where
     both : (b : Bool) → cond b false false ≡ false

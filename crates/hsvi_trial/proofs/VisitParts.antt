@@ -1,14 +1,14 @@
 -- A visit from its parts: what it made, kept and chose.
-use Rattle.std.proofs.Common.{◌≡◌, ℕ, suc, Option, Some, None, List, Bool, true, false, not, ◌&&◌, refl, ap, sym, subst, ◌∙◌}
-use Rattle.std.specs.Prelude.{ℤ, IsFalse, IsTrue, pos, ◌↔◌}
+use Rattle.std.proofs.Common.{◌≡◌, ℕ, Option, Some, None, List, Bool, true, false, not, ◌&&◌, refl, sym, subst, ◌∙◌}
+use Rattle.std.specs.Prelude.{ℤ, IsTrue, ◌↔◌}
 use Rattle.belief.specs.After.{mass_after}
 use Rattle.belief.specs.Mixes.{MixesData}
 use Rattle.belief.specs.Reduced.{IsReduced}
 use Rattle.game_model.specs.Game.{GameData}
 use Rattle.hsvi_trial.specs.Due.{IsCut, IsNodeRefused, KeepsNode, KeepsPoint}
-use Rattle.hsvi_trial.specs.Excess.{IsChoice, View}
+use Rattle.hsvi_trial.specs.Excess.{View}
 use Rattle.hsvi_trial.specs.Looks.{IsLook, LeadsTo, looks_from}
-use Rattle.hsvi_trial.specs.RightVisit.{IsMade, IsNextBelief, IsRightVisit, Made, looks_on, view_of}
+use Rattle.hsvi_trial.specs.RightVisit.{IsMade, IsNextBelief, Made, looks_on, view_of}
 use Rattle.hsvi_trial.specs.Run.{Task}
 use Rattle.hsvi_trial.specs.Sets.{Sets}
 use Rattle.hsvi_trial.specs.declared.courses.Place.{Place}

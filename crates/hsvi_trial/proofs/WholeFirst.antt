@@ -1,18 +1,18 @@
 -- The first belief, times the mix total.
-use Rattle.std.proofs.Common.{◌≡◌, ℕ, ◌+◌, ◌*◌, ◌^◌, ◌<◌, ◌≤◌, List, [], ◌∷◌, ◌++◌, length, map, set, take, refl, ap, ap₂, sym, subst, ◌∙◌, arith, add-one}
+use Rattle.std.proofs.Common.{◌≡◌, ℕ, ◌+◌, ◌*◌, ◌^◌, ◌<◌, ◌≤◌, List, [], ◌∷◌, ◌++◌, length, map, set, take, ap, ap₂, sym, subst, ◌∙◌, arith, add-one}
 use Rattle.std.proofs.Math.Nat.{mul-le-mul}
 use Rattle.std.proofs.Math.Seq.{take-length, take-suc}
 use Rattle.std.proofs.lemmas.Int.{fits_signed_from_abs, ints, unsigned_abs-mul}
 use Rattle.std.proofs.lemmas.List.{length-map, map-append, take_more_set}
 use Rattle.std.specs.Int.{w128}
 use Rattle.std.specs.List.{AllByRecursion}
-use Rattle.std.specs.Prelude.{ℤ, pos, neg_ℤ, FitsSigned, slice_index_or, unsigned_abs, ◌+ℤ◌, ◌-ℤ◌, ◌*ℤ◌, ◌≤ℤ◌}
-use Rattle.scaled_num.specs.Sums.{sum_of, total}
+use Rattle.std.specs.Prelude.{ℤ, pos, neg_ℤ, FitsSigned, slice_index_or, unsigned_abs, ◌-ℤ◌, ◌*ℤ◌, ◌≤ℤ◌}
+use Rattle.scaled_num.specs.Sums.{sum_of}
 use Rattle.scaled_num.proofs.Sums.{each-at, each-map, total-map, total-scale}
 use Rattle.scaled_num.proofs.Products.{mulℤ_left_comm}
 use Rattle.controller.specs.Certificates.{FractionData, IsGap, first_total}
 use Rattle.game_model.specs.Branches.{mix_total}
-use Rattle.game_model.specs.Game.{GameData, IsBelief, IsGame, IsMass, IsWithin, span}
+use Rattle.game_model.specs.Game.{GameData, IsGame, IsMass, IsWithin, span}
 use Rattle.game_model.specs.Limits.{most_belief}
 use Rattle.game_model.specs.Spans.{IsWithinSpan}
 use Rattle.game_model.proofs.Pay.{each-from}

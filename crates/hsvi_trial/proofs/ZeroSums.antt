@@ -1,5 +1,5 @@
 -- Masses that are zero, and how large a mass is.
-use Rattle.std.proofs.Common.{◌≡◌, ◌^◌, ◌*◌, List, [], ◌∷◌, refl, ap, ap₂, sym, subst, ◌∙◌, arith, true, false}
+use Rattle.std.proofs.Common.{◌≡◌, ◌^◌, List, [], ◌∷◌, refl, ap, ap₂, sym, ◌∙◌, arith}
 use Rattle.std.proofs.lemmas.Bool.{false≢true}
 use Rattle.std.proofs.lemmas.Int.{ints}
 use Rattle.std.specs.List.{AllByRecursion}

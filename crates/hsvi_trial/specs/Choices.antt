@@ -1,5 +1,5 @@
 -- The first pair of greatest excess among those looked at so far.
-use Rattle.std.specs.Prelude.{ℕ, ℤ, pos, Option, Some, None, ◌≡◌, ◌<◌, ◌*◌, ◌≤◌, ◌≤ℤ◌, ◌<ℤ◌}
+use Rattle.std.specs.Prelude.{ℕ, ℤ, pos, Option, Some, None, ◌*◌, ◌≤ℤ◌, ◌<ℤ◌}
 use Rattle.alpha_set.specs.Nodes.{IsMix}
 use Rattle.game_model.specs.Game.{GameData, IsWithin, span}
 use Rattle.stage_game.specs.Asked.{BeliefFits, NodesServe, PointsServe}

@@ -1,5 +1,5 @@
 -- Where a search goes on, as the program keeps it.
-use Rattle.std.specs.Prelude.{ℕ, suc, ℤ, Bool, true, false, List, Option, Some, None, cond, length, slice_index_or, ◌==◌, ◌+◌, ◌-◌, ◌≡◌, ◌<◌, ◌≤◌}
+use Rattle.std.specs.Prelude.{ℕ, ℤ, true, false, List, Option, Some, None, cond, length, slice_index_or, ◌==◌, ◌+◌, ◌-◌, ◌≡◌, ◌<◌, ◌≤◌}
 use Rattle.game_model.specs.Game.{GameData}
 use Rattle.hsvi_trial.specs.Next.{GoesBack, GoesDown}
 use Rattle.hsvi_trial.specs.RightVisit.{IsNextBelief}

@@ -1,8 +1,7 @@
 -- The start of sets, before its weights are brought to lowest terms.
 use Rattle.std.specs.Prelude.{ℕ, ℤ, pos, List, length, map, unsigned_abs, ◌/◌, ◌≡◌, ◌*ℤ◌, ◌≤ℤ◌, ◌<ℤ◌}
-use Rattle.alpha_set.specs.Worth.{IsWorth}
 use Rattle.game_model.specs.Branches.{mix_total}
-use Rattle.game_model.specs.Game.{GameData, IsGame}
+use Rattle.game_model.specs.Game.{GameData}
 use Rattle.point_set.specs.Corners.{point_at}
 use Rattle.point_set.specs.Points.{PointData}
 use Rattle.point_set.specs.Sawtooth.{IsSawtooth}

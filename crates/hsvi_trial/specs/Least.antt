@@ -1,5 +1,5 @@
 -- The first point of least value at a belief.
-use Rattle.std.specs.Prelude.{ℕ, ℤ, List, Option, Some, None, length, ◌≡◌, ◌<◌, ◌≤ℤ◌, ◌<ℤ◌}
+use Rattle.std.specs.Prelude.{ℕ, ℤ, List, Option, Some, None, ◌≡◌, ◌<◌, ◌≤ℤ◌, ◌<ℤ◌}
 use Rattle.point_set.specs.Corners.{point_at}
 use Rattle.point_set.specs.Points.{PointData}
 

@@ -20,4 +20,6 @@ pub mod Held
 pub mod Remembered
 pub mod Laws
 pub mod Copies
+pub mod Cursors
+pub mod Repeats
 pub mod Growth

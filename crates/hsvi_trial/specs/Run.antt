@@ -1,5 +1,5 @@
 -- The run of solve: trials from the seeds on, until the bounds are near, the budget is used or a set is full.
-use Rattle.std.specs.Prelude.{ℕ, pos, Bool, true, false, IsTrue, List, [], ◌∷◌, ◌++◌, length, ◌≡◌, ◌<◌, ◌≤◌, ◌^◌, ◌⊎◌}
+use Rattle.std.specs.Prelude.{ℕ, Bool, true, false, IsTrue, List, [], ◌∷◌, ◌++◌, length, ◌≡◌, ◌<◌, ◌≤◌, ◌⊎◌}
 use Rattle.controller.specs.Certificates.{Closed, Ending, FractionData, Full, IsGap, Trials}
 use Rattle.game_model.specs.Game.{GameData}
 use Rattle.hsvi_trial.specs.Journal.{AreHeld, AreLinked, AreRightVisits}

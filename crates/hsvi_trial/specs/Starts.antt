@@ -1,5 +1,5 @@
 -- The start that sets give, its bounds, and whether they are near enough.
-use Rattle.std.specs.Prelude.{ℕ, ℤ, pos, List, [], ◌∷◌, length, map, slice_index_or, ◌≡◌, ◌<◌, ◌*◌, ◌-ℤ◌, ◌*ℤ◌, ◌≤ℤ◌, ◌<ℤ◌}
+use Rattle.std.specs.Prelude.{ℕ, ℤ, pos, List, [], ◌∷◌, length, map, slice_index_or, ◌≡◌, ◌*◌, ◌-ℤ◌, ◌*ℤ◌, ◌≤ℤ◌, ◌<ℤ◌}
 use Rattle.alpha_set.specs.Nodes.{no_node}
 use Rattle.alpha_set.specs.Worth.{IsWorth, worth_at}
 use Rattle.belief.specs.Reduced.{AreLowest}

@@ -2,6 +2,7 @@
 #![tactic(auto)]
 
 mod choices;
+mod copies;
 mod courses;
 mod ends;
 mod keeping;

@@ -12,6 +12,7 @@ ghost use Rattle.hsvi_trial.specs.declared.visits.Visit.{Visit as VisitParts};
 ghost use Rattle.std.specs.Prelude.{IfOk, OnErr, OnOk, [], false, length, ◌*◌, ◌++◌, ◌∷◌, ◌≡◌, ◌≤◌};
 
 use crate::choices::look_on;
+use crate::copies::{back_after, copy_visit};
 use crate::courses::Course;
 use crate::ends::{end_of, outcome};
 use crate::memory::{Memory, remember_lower, remember_upper};
@@ -54,6 +55,8 @@ pub struct Search<'g> {
     cut: bool,
     /// What the last visits made.
     memory: Memory,
+    /// How many visits back the next one stands already; 0 where it is to be made.
+    back: usize,
 }
 
 impl<'g> Model for Search<'g> {
@@ -61,6 +64,7 @@ impl<'g> Model for Search<'g> {
     ghost use Rattle.hsvi_trial.specs.Data.{SearchState, search_state};
     ghost use Rattle.hsvi_trial.specs.Held.{IsHeld};
     ghost use Rattle.hsvi_trial.specs.Remembered.{IsMemory};
+    ghost use Rattle.hsvi_trial.specs.Repeats.{Repeats};
 
     ghost Value = { SearchState };
 
@@ -69,7 +73,8 @@ impl<'g> Model for Search<'g> {
     ghost invariant = { λ s.
         IsHeld (search_state s.game.now s.trials (fraction_data s.gap) s.nodes s.points s.journal.items s.cut)
         s.course s.solver
-        × IsMemory s.game.now s.nodes.members s.points.members s.memory };
+        × IsMemory s.game.now s.nodes.members s.points.members s.memory
+        × Repeats s.journal.items s.course s.back };
 }
 
 impl<'g> Search<'g> {
@@ -111,6 +116,7 @@ impl<'g> Search<'g> {
             course: Course::new(game),
             cut: false,
             memory,
+            back: 0,
         })
     }
 
@@ -151,6 +157,10 @@ impl<'g> Search<'g> {
             self.course.trial,
         ) {
             return Ok(Progress::Ended(outcome));
+        }
+        if self.back > 0 {
+            copy_visit(self.game, &mut self.journal, &mut self.course, self.back)?;
+            return Ok(Progress::Visited);
         }
         let place = self.course.place(&self.journal);
         let made = make(
@@ -203,7 +213,7 @@ impl<'g> Search<'g> {
         );
         let trial = self.course.trial;
         let count = self.journal.len() + 1;
-        self.course = self.course.after(self.game, place.depth, count, look.next);
+        let after = self.course.after(self.game, place.depth, count, look.next);
         self.cut = kept.cut;
         self.journal.push_reserved(Visit {
             trial,
@@ -214,6 +224,8 @@ impl<'g> Search<'g> {
             point: kept.point,
             chosen: look.chosen,
         });
+        self.back = back_after(&self.course, &self.journal);
+        self.course = after;
         Ok(Progress::Visited)
     }
 

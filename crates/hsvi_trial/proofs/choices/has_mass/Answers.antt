@@ -1,7 +1,6 @@
-use Rattle.std.proofs.Common.{◌^◌, ap, arith, sym}
-use Rattle.std.proofs.lemmas.Int.{ints, to_z-of_z}
-use Rattle.std.specs.Int.{w128}
-use Rattle.std.specs.Prelude.{FitsSigned, int_lt, ℤ, pos, ◌≤ℤ◌}
+use Rattle.std.proofs.Common.{◌^◌, arith}
+use Rattle.std.proofs.lemmas.Int.{ints}
+use Rattle.std.specs.Prelude.{ℤ, pos, ◌≤ℤ◌}
 use Rattle.scaled_num.specs.Sums.{sum_of}
 use Rattle.hsvi_trial.proofs.ZeroSums.{mass-light}
 use Rattle.hsvi_trial.proofs.choices.has_mass.Goals as goal

@@ -1,12 +1,11 @@
-use Rattle.std.proofs.Common.{ℕ, List, Option, add-one, ap, of_z, pos, refl, rules, subst, suc, sym, to_z, true, false, ◌≡◌, ◌∙◌}
+use Rattle.std.proofs.Common.{ℕ, add-one, ap, of_z, pos, rules, subst, suc, sym, to_z, true, ◌≡◌, ◌∙◌}
 use Rattle.std.proofs.lemmas.Bool.{false≢true}
 use Rattle.std.proofs.lemmas.Int.{to_z-of_z}
 use Rattle.std.specs.Int.{w128}
 use Rattle.std.specs.Prelude.{ℤ, FitsSigned}
 use Rattle.controller.specs.Data.{fraction_data}
 use Rattle.hsvi_trial.specs.Excess.{IsChoice, View}
-use Rattle.hsvi_trial.specs.Looks.{IsLook, LeadsTo, looks_from}
-use Rattle.hsvi_trial.specs.Sets.{Sets}
+use Rattle.hsvi_trial.specs.Looks.{LeadsTo, looks_from}
 use Rattle.hsvi_trial.specs.Thresholds.{threshold}
 use Rattle.hsvi_trial.proofs.choices.look_on.Goals as goal
 

@@ -1,7 +1,6 @@
-use Rattle.std.proofs.Common.{Bool, false, inl, inr, refl, true, ◌≡◌, ◌⊎◌}
-use Rattle.std.specs.Prelude.{IsTrue}
-use Rattle.controller.specs.Data.{ending_of, fraction_data}
-use Rattle.hsvi_trial.specs.Run.{IsOutcome, Task}
+use Rattle.std.proofs.Common.{inl, inr, refl, true, ◌≡◌}
+use Rattle.controller.specs.Data.{fraction_data}
+use Rattle.hsvi_trial.specs.Run.{Task}
 use Rattle.hsvi_trial.specs.Sets.{Sets}
 use Rattle.hsvi_trial.proofs.ends.end_of.Goals as goal
 

@@ -1,4 +1,4 @@
-use Rattle.std.proofs.Common.{ap, ◌∙◌, rules, length, ℕ, ◌≤◌, subst, sym, List, arith}
+use Rattle.std.proofs.Common.{ap, ◌∙◌, rules, length, subst, List}
 use Rattle.std.specs.Prelude.{ℤ, FitsSigned}
 use Rattle.std.specs.Int.{w128}
 use Rattle.std.proofs.lemmas.Int.{to_z-of_z}

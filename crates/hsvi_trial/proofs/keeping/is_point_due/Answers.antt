@@ -1,4 +1,4 @@
-use Rattle.std.proofs.Common.{ap, rules, length, ℕ, subst, sym, List}
+use Rattle.std.proofs.Common.{ap, rules, subst, sym, List}
 use Rattle.std.specs.Int.Signed.{lt_z}
 use Rattle.std.specs.Prelude.{ℤ, FitsSigned, IsTrue, ◌↔◌}
 use Rattle.point_set.specs.Points.{PointData}

@@ -1,4 +1,4 @@
-use Rattle.std.proofs.Common.{arith, ℕ, subst, sym, ◌+◌, ◌*◌, ◌^◌, ◌≤◌, ◌≡◌}
+use Rattle.std.proofs.Common.{ℕ, subst, sym, ◌≤◌}
 use Rattle.hsvi_trial.proofs.Rooms.{rooms-size}
 use Rattle.hsvi_trial.proofs.search.reserve_solver.Goals as goal
 

@@ -1,4 +1,4 @@
-use Rattle.std.proofs.Common.{List, ap, arith, refl, rules, sym, subst, ◌*◌, ◌≡◌, ◌∙◌, ℕ}
+use Rattle.std.proofs.Common.{List, ap, rules, sym, subst, ◌*◌, ◌≡◌, ◌∙◌}
 use Rattle.std.proofs.lemmas.Bool.{false≢true}
 use Rattle.std.specs.Int.{w128}
 use Rattle.std.specs.Prelude.{FitsSigned, ℤ, pos, ◌-ℤ◌, ◌*ℤ◌, ◌≤ℤ◌}

@@ -1,8 +1,6 @@
-use Rattle.std.proofs.Common.{ap, ap₂, arith, length, refl, rules, subst, sym, suc, to_z, ◌++◌, ◌∷◌, ◌/◌, ◌<◌, ◌≤◌, ◌≡◌, ◌∙◌, ◌^◌, ℕ, pos, [], List}
+use Rattle.std.proofs.Common.{ap, length, rules, subst, sym, to_z, ◌++◌, ◌∷◌, ◌/◌, ◌<◌, ◌≡◌, ◌∙◌, ℕ, pos, []}
 use Rattle.std.specs.Int.{w128}
-use Rattle.std.specs.List.{AllByRecursion}
-use Rattle.std.specs.Prelude.{ℤ, FitsSigned, slice_index_or, unsigned_abs, ◌≤ℤ◌}
-use Rattle.std.proofs.Math.Nat.{div-le_self}
+use Rattle.std.specs.Prelude.{ℤ, FitsSigned, unsigned_abs, ◌≤ℤ◌}
 use Rattle.std.proofs.lemmas.Int.{to_z-of_z, to_z_pos}
 use Rattle.scaled_num.proofs.Sums.{each-at}
 use Rattle.hsvi_trial.proofs.Weights.{lowest-more, small-part}

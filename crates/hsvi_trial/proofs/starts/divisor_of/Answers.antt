@@ -1,5 +1,5 @@
 use Rattle.std.proofs.Common.{ap, arith, length, rules, subst, ◌<◌, ◌≡◌, ◌∙◌, ℕ}
-use Rattle.std.specs.Prelude.{ℤ, FitsSigned, unsigned_abs}
+use Rattle.std.specs.Prelude.{FitsSigned, unsigned_abs}
 use Rattle.std.specs.Int.{IsGcd, w128}
 use Rattle.std.proofs.lemmas.Int.{to_z-of_z}
 use Rattle.hsvi_trial.proofs.Weights.{divisor-divides, divisor-greatest, divisor-next}

@@ -1,4 +1,4 @@
-use Rattle.std.proofs.Common.{List, ap, length, refl, sym, subst, to_z, ◌≡◌, ◌∷◌, ◌/◌, ◌<◌, ◌≤◌, ◌∙◌, ℕ, [], arith}
+use Rattle.std.proofs.Common.{List, ap, sym, subst, to_z, ◌≡◌, ◌/◌, ◌≤◌, ◌∙◌, ℕ, arith}
 use Rattle.std.specs.Int.{w128, ◌∣◌}
 use Rattle.std.specs.List.{AllByRecursion}
 use Rattle.std.specs.Prelude.{ℤ, pos, unsigned_abs}
@@ -10,7 +10,7 @@ use Rattle.game_model.specs.Game.{IsMass}
 use Rattle.stage_game.proofs.LowerEnds.{belief-mass}
 use Rattle.hsvi_trial.specs.Founds.{IsUpperFound, lowest_items}
 use Rattle.hsvi_trial.specs.Sets.{Sets}
-use Rattle.hsvi_trial.specs.Starts.{IsStart, StartData}
+use Rattle.hsvi_trial.specs.Starts.{IsStart}
 use Rattle.hsvi_trial.specs.declared.starts.Upper.{Upper}
 use Rattle.hsvi_trial.specs.declared.starts.Upper.TheVariants.{Root, Tooth}
 use Rattle.hsvi_trial.proofs.StartFacts.{root-start, some-divisor, tooth-started}

@@ -1,4 +1,4 @@
-use Rattle.std.proofs.Common.{List, ap, arith, length, refl, rules, sym, subst, ◌≡◌, ◌∙◌, ℕ}
+use Rattle.std.proofs.Common.{List, ap, arith, length, refl, rules, sym, subst, ◌≡◌}
 use Rattle.std.specs.Int.{w128}
 use Rattle.std.specs.Prelude.{FitsSigned, ℤ, pos, ◌*ℤ◌, ◌≤ℤ◌, ◌<ℤ◌}
 use Rattle.std.proofs.lemmas.Int.{ints, to_z-of_z}
@@ -11,7 +11,6 @@ use Rattle.point_set.specs.Sawtooth.{IsSawtooth}
 use Rattle.point_set.specs.Split.{MakesUp}
 use Rattle.point_set.specs.Tooth.{IsToothSplit, items_cost}
 use Rattle.hsvi_trial.specs.Founds.{IsUpperFound}
-use Rattle.hsvi_trial.specs.Starts.{whole_first}
 use Rattle.hsvi_trial.specs.declared.starts.Upper.TheVariants.{Root, Tooth}
 use Rattle.hsvi_trial.proofs.WholeFirst.{first-small, root-within, times-fits, whole-mass, whole-within}
 use Rattle.hsvi_trial.proofs.starts.upper_part.Goals as goal

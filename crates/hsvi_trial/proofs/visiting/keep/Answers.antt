@@ -1,9 +1,7 @@
-use Rattle.std.proofs.Common.{◌↔◌}
 use Rattle.std.specs.Prelude.{IsTrue}
 use Rattle.alpha_set.specs.Members.{node_data}
 use Rattle.point_set.specs.Members.{point_data}
 use Rattle.stage_game.proofs.LowerEnds.{belief-mass}
-use Rattle.hsvi_trial.specs.Due.{IsNodeRefused}
 use Rattle.hsvi_trial.proofs.Holding.{nodes-go-on, points-go-on}
 use Rattle.hsvi_trial.proofs.visiting.keep.Goals as goal
 

@@ -1,12 +1,9 @@
-use Rattle.std.proofs.Common.{List, ap, arith, not, refl, rules, sym, subst, ◌∙◌, ◌≡◌, Bool, true, false}
-use Rattle.std.proofs.lemmas.Bool.{false≢true}
+use Rattle.std.proofs.Common.{arith, refl, rules, sym, subst, ◌∙◌, ◌≡◌, true, false}
 use Rattle.std.proofs.lemmas.Int.{ints, to_z-of_z}
 use Rattle.std.specs.Int.{w128}
-use Rattle.std.specs.Prelude.{FitsSigned, IsTrue, ℤ, pos, ◌≤ℤ◌, ◌<ℤ◌}
+use Rattle.std.specs.Prelude.{FitsSigned, ℤ, ◌≤ℤ◌, ◌<ℤ◌}
 use Rattle.game_model.specs.Game.{IsGame, IsMass}
-use Rattle.stage_game.specs.Masses.{is_some_mass}
-use Rattle.hsvi_trial.specs.Choices.{IsBestPair, IsView, best_excess}
-use Rattle.hsvi_trial.specs.Excess.{HasExcess, IsExcess}
+use Rattle.hsvi_trial.specs.Choices.{IsView, best_excess}
 use Rattle.hsvi_trial.specs.Views.{ViewData}
 use Rattle.hsvi_trial.specs.declared.choices.Best.{Best}
 use Rattle.hsvi_trial.proofs.BestPairs.{pair-better, pair-stays}

@@ -1,4 +1,4 @@
-use Rattle.std.proofs.Common.{None, Option, Some, ap, arith, subst, ◌≡◌, ℕ}
+use Rattle.std.proofs.Common.{Option, ap, arith, subst, ◌≡◌, ℕ}
 use Rattle.hsvi_trial.specs.Choices.{IsBestBefore}
 use Rattle.hsvi_trial.specs.Views.{ViewData}
 use Rattle.hsvi_trial.specs.declared.choices.Best.{Best}

@@ -1,18 +1,16 @@
-use Rattle.std.proofs.Common.{rules, ℕ, ◌<◌, ap, List, arith, get_or, of_z, refl, sym, subst, to_z}
+use Rattle.std.proofs.Common.{rules, ℕ, ◌<◌, refl, sym, subst}
 use Rattle.std.specs.Int.{w128}
-use Rattle.std.specs.List.{AllByRecursion}
-use Rattle.std.specs.Prelude.{FitsSigned, IsTrue, pos, slice_index_or, ℤ, ◌-ℤ◌, ◌*ℤ◌}
+use Rattle.std.specs.Prelude.{FitsSigned, pos, slice_index_or, ℤ, ◌-ℤ◌, ◌*ℤ◌}
 use Rattle.std.proofs.lemmas.Int.{to_z-of_z}
 use Rattle.alpha_set.specs.Worth.{AreWeighed}
 use Rattle.game_model.specs.Branches.{mix_total}
-use Rattle.game_model.specs.Game.{GameData, IsMass, IsWithin, unit}
+use Rattle.game_model.specs.Game.{IsMass, IsWithin, unit}
 use Rattle.point_set.specs.Sawtooth.{AreMeasured}
 use Rattle.scaled_num.specs.Share.{IsFloor, at}
-use Rattle.scaled_num.specs.Sums.{sum_of}
 use Rattle.scaled_num.proofs.Sums.{each-at}
 use Rattle.hsvi_trial.specs.Excess.{IsExcess}
 use Rattle.hsvi_trial.specs.Views.{ViewData}
-use Rattle.hsvi_trial.proofs.ExcessSizes.{ExcessFits, excess-fits}
+use Rattle.hsvi_trial.proofs.ExcessSizes.{excess-fits}
 use Rattle.hsvi_trial.proofs.choices.View.excess.Goals as goal
 
 pub overflow_mul-allowed : goal.overflow_mul-allowed

@@ -1,3 +1,4 @@
+use Rattle.std.proofs.Common.{arith}
 use Rattle.controller.specs.Data.{fraction_data}
 use Rattle.hsvi_trial.proofs.Beginning.{held-new}
 use Rattle.hsvi_trial.proofs.Remembering.{memory-new}
@@ -11,4 +12,5 @@ invariant_of-result c = (
       c.in_ok-nodes.ensures.nodes_fit c.in_ok-nodes.ensures.points_fit c.in_ok-nodes.ensures.nodes_stand c.in_ok-nodes.ensures.points_stand
       c.len.ensures.few c.len-2.ensures.few c.in_ok-reserve_solver.ensures c.new-2.ensures.items c.new-3.ensures.trial c.new-3.ensures.first c.new-3.ensures.next,
   memory-new c.args.game.now c.in_ok-nodes.nodes.members c.in_ok-nodes.points.members c.in_ok-memory.memory c.in_ok-memory.ensures.lower c.in_ok-memory.ensures.upper,
+  λ some. absurd (omega (arith, some)),
 )

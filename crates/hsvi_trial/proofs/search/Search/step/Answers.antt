@@ -1,4 +1,4 @@
-use Rattle.std.proofs.Common.{Bool, List, not, ◌&&◌, suc, Option, Some, None, ap, ap₂, arith, length, refl, rules, subst, sym, ◌+◌, ◌++◌, ◌∷◌, ◌≡◌, ◌≤◌, ◌∙◌, ℕ, []}
+use Rattle.std.proofs.Common.{Bool, List, not, ◌&&◌, suc, ap, arith, length, length-append, refl, rules, subst, sym, ◌+◌, ◌++◌, ◌∷◌, ◌≡◌, ◌<◌, ◌≤◌, ◌∙◌, ℕ, []}
 use Rattle.std.specs.Prelude.{IsTrue, pos, ℤ}
 use Rattle.alpha_set.specs.Members.{node_data}
 use Rattle.alpha_set.specs.Nodes.{NodeData, NodeFits}
@@ -8,6 +8,7 @@ use Rattle.point_set.specs.Members.{point_data}
 use Rattle.point_set.specs.Points.{PointData, PointFits}
 use Rattle.stage_game.specs.Asked.{BeliefFits, NodesServe}
 use Rattle.stage_game.specs.Data.{lower_data, upper_data}
+use Rattle.hsvi_trial.specs.Copies.{renumbered}
 use Rattle.hsvi_trial.specs.Courses.{BeginsTrial, HasPlace, IsPlace}
 use Rattle.hsvi_trial.specs.Data.{EndsWith, SearchState, search_state}
 use Rattle.hsvi_trial.specs.Due.{IsNodeRefused}
@@ -15,6 +16,7 @@ use Rattle.hsvi_trial.specs.Ends.{IsOnward}
 use Rattle.hsvi_trial.specs.Excess.{View}
 use Rattle.hsvi_trial.specs.Looks.{IsLook, looks_from}
 use Rattle.hsvi_trial.specs.Remembered.{AreLowerSides, AreUpperSides, IsLowerMade, IsUpperMade}
+use Rattle.hsvi_trial.specs.Repeats.{IsCopied, IsRepeat}
 use Rattle.hsvi_trial.specs.RightVisit.{Made}
 use Rattle.hsvi_trial.specs.Sets.{Sets}
 use Rattle.hsvi_trial.specs.Thresholds.{threshold}
@@ -22,6 +24,7 @@ use Rattle.hsvi_trial.specs.declared.visits.Visit.{Visit}
 use Rattle.hsvi_trial.proofs.Beginning.{has-start}
 use Rattle.hsvi_trial.proofs.Holding.{few-visits, place-fits, place-there, trial-within}
 use Rattle.hsvi_trial.proofs.Remembering.{lower-left, lower-sides-go-on, upper-left, upper-sides-go-on}
+use Rattle.hsvi_trial.proofs.Repeating.{held-copied, repeat-copied, repeats-stepped}
 use Rattle.hsvi_trial.proofs.Stepped.{IsStep, ends-with, held-stepped, place-more}
 use Rattle.hsvi_trial.proofs.VisitParts.{visit_of}
 use Rattle.hsvi_trial.proofs.search.Search.step.Goals as goal
@@ -113,14 +116,14 @@ remember_upper-requires-clause-left c =
     c.keep-kept.ensures.point c.keep-kept.ensures.left_point
     (subst (λ (ps : List PointData). IsUpperMade c.self.inside.game.now ps c.place-place.result.belief (upper_data c.in_ok-made.made.upper) (point_data c.in_ok-made.made.point)) (sym c.make.ensures.same_points) c.in_ok-made.ensures.upper)
 
-pub after-self-inside-requires-clause-trial : goal.after-self-inside-requires-clause-trial
-after-self-inside-requires-clause-trial c =
+pub after-after-requires-clause-trial : goal.after-after-requires-clause-trial
+after-after-requires-clause-trial c =
     let within : c.self.inside.course.trial ≤ c.self.inside.trials = trial-within _ c.self.invariant.0.seeds _ _ _ c.self.inside.course.trial c.self.inside.course.first c.self.inside.course.next c.self.invariant.0.run c.self.invariant.0.goes in
     let most : c.self.inside.trials ≤ 10000 = c.self.invariant.0.limits.trials in
     omega (arith, within, most)
 
-pub after-self-inside-requires-clause-place : goal.after-self-inside-requires-clause-place
-after-self-inside-requires-clause-place c =
+pub after-after-requires-clause-place : goal.after-after-requires-clause-place
+after-after-requires-clause-place c =
     let count : c.len-count.result ≡ length c.make.new.journal.items = search rules in
     let same : length c.make.new.journal.items ≡ length c.self.inside.journal.items = ap (λ (vs : List Visit). length vs) c.make.ensures.same_journal in
     let there = place-there c.self.inside.game.now c.self.invariant.0.seeds _ c.self.inside.journal.items c.self.inside.course.trial c.self.inside.course.first c.self.inside.course.next c.self.invariant.0.goes in
@@ -163,13 +166,68 @@ invariant_of-self-2 c =
       look = look;
       fits = c.look_on-look.ensures.fits;
     } in
+    let visit : Visit = visit_of c.self.inside.course.trial c.place-place.result c.keep-kept.result.node c.keep-kept.result.point c.look_on-look.result.chosen in
     let count : c.len-count.result + 1 ≡ length c.self.inside.journal.items + 1 =
     (let now : c.len-count.result ≡ length c.make.new.journal.items = search rules in ap (λ (n : ℕ). n + 1) (now ∙ ap (λ (vs : List Visit). length vs) c.make.ensures.same_journal)) in (
-      held-stepped old c.self.inside.course c.after-self-inside.result c.self.inside.solver c.make.new.solver c.begins-begins.result c.place-place.result made c.make.new.nodes.members c.make.new.points.members new
+      held-stepped old c.self.inside.course c.after-after.result c.self.inside.solver c.make.new.solver c.begins-begins.result c.place-place.result made c.make.new.nodes.members c.make.new.points.members new
           c.keep-kept.result.node c.keep-kept.result.point c.keep-kept.result.cut c.look_on-look.result.chosen c.look_on-look.result.next c.make.new.journal.items c.push_reserved.new.self.items (c.len-count.result + 1)
-          c.law_game.ensures.accepted c.self.invariant.0 step c.make.ensures.rows c.make.ensures.variables c.after-self-inside.ensures count c.push_reserved.ensures.items c.make.ensures.same_journal,
+          c.law_game.ensures.accepted c.self.invariant.0 step c.make.ensures.rows c.make.ensures.variables c.after-after.ensures count c.push_reserved.ensures.items c.make.ensures.same_journal,
       record { lower = c.remember_lower.ensures; upper = c.remember_upper.ensures },
+      repeats-stepped c.self.inside.game.now c.self.invariant.0.seeds old.sets c.self.inside.journal.items c.self.inside.course c.after-after.result visit c.back_after-self-inside.result c.place-place.result.depth
+          (c.len-count.result + 1) c.look_on-look.result.next c.push_reserved.new.self.items c.deref-3.result.now c.self.invariant.0.goes c.after-after.ensures count
+          (c.push_reserved.ensures.items ∙ ap (λ (vs : List Visit). vs ++ visit ∷ []) c.make.ensures.same_journal) c.deref-3.ensures.value
+          c.back_after-self-inside.ensures.ends c.back_after-self-inside.ensures.long c.back_after-self-inside.ensures.nothing,
     )
+
+pub place-place-requires-clause-place : goal.place-place-requires-clause-place
+place-place-requires-clause-place c =
+    let same : length c.deref.result.now ≡ length c.self.inside.journal.items = ap (λ (vs : List Visit). length vs) c.deref.ensures.value in
+    let there = place-there c.self.inside.game.now c.self.invariant.0.seeds _ c.self.inside.journal.items c.self.inside.course.trial c.self.inside.course.first c.self.inside.course.next c.self.invariant.0.goes in
+    subst (λ (n : ℕ). HasPlace n c.self.inside.course.first c.self.inside.course.next) (sym same) there
+
+pub back_after-self-inside-requires : goal.back_after-self-inside-requires
+back_after-self-inside-requires c =
+    let visit : Visit = visit_of c.self.inside.course.trial c.place-place.result c.keep-kept.result.node c.keep-kept.result.point c.look_on-look.result.chosen in
+    let slice : length c.deref-3.result.now ≡ length c.push_reserved.new.self.items = ap (λ (vs : List Visit). length vs) c.deref-3.ensures.value in
+    let pushed : length c.push_reserved.new.self.items ≡ length (c.make.new.journal.items ++ visit ∷ []) = ap (λ (vs : List Visit). length vs) c.push_reserved.ensures.items in
+    let same : length c.make.new.journal.items ≡ length c.self.inside.journal.items = ap (λ (vs : List Visit). length vs) c.make.ensures.same_journal in
+    let there = place-there c.self.inside.game.now c.self.invariant.0.seeds _ c.self.inside.journal.items c.self.inside.course.trial c.self.inside.course.first c.self.inside.course.next c.self.invariant.0.goes in
+    let more = place-more (length c.self.inside.journal.items) (length c.deref-3.result.now) c.self.inside.course.first c.self.inside.course.next
+    (omega (arith, slice, pushed, same, length-append c.make.new.journal.items (visit ∷ []))) there in
+    record { place = more }
+
+-- ---- a visit that is made once more
+pub copy_visit-requires-clause-trial : goal.copy_visit-requires-clause-trial
+copy_visit-requires-clause-trial c =
+    let within : c.self.inside.course.trial ≤ c.self.inside.trials = trial-within _ c.self.invariant.0.seeds _ _ _ c.self.inside.course.trial c.self.inside.course.first c.self.inside.course.next c.self.invariant.0.run c.self.invariant.0.goes in
+    let most : c.self.inside.trials ≤ 10000 = c.self.invariant.0.limits.trials in
+    omega (arith, within, most)
+
+pub copy_visit-requires-clause-place : goal.copy_visit-requires-clause-place
+copy_visit-requires-clause-place c =
+    place-there c.self.inside.game.now c.self.invariant.0.seeds _ c.self.inside.journal.items c.self.inside.course.trial c.self.inside.course.first c.self.inside.course.next c.self.invariant.0.goes
+
+pub invariant_of-self-then-self-gt0 : goal.invariant_of-self-then-self-gt0
+invariant_of-self-then-self-gt0 c =
+    let old : SearchState = search_state c.self.inside.game.now c.self.inside.trials (fraction_data c.self.inside.gap) c.self.inside.nodes c.self.inside.points c.self.inside.journal.items c.self.inside.cut in
+    let some : 0 < c.self.inside.back = search rules in
+    let counted : c.len.result ≡ length c.self.inside.journal.items = search rules in
+    let begin : BeginsTrial (length c.self.inside.journal.items) c.self.inside.course.first c.self.inside.course.next → IsTrue c.begins-begins.result =
+    λ b. c.begins-begins.ensures.1 (subst (λ (n : ℕ). BeginsTrial n c.self.inside.course.first c.self.inside.course.next) (sym counted) b) in
+    let onward : IsOnward old.task old.sets old.cut c.begins-begins.result c.self.inside.course.trial = c.in_default.ensures.onward refl in
+    let repeat : IsRepeat c.self.inside.journal.items c.self.inside.course c.self.inside.back = c.self.invariant.2 some in (
+      held-copied old c.self.inside.course c.copy_visit.new.course c.self.inside.solver c.begins-begins.result c.self.inside.back c.copy_visit.new.journal.items c.law_game.ensures.accepted c.self.invariant.0
+          begin onward repeat c.in_ok-copy_visit.ensures.copied,
+      c.self.invariant.1,
+      λ _. repeat-copied c.self.inside.game.now c.self.inside.journal.items c.self.inside.course c.copy_visit.new.course c.self.inside.back c.copy_visit.new.journal.items repeat c.in_ok-copy_visit.ensures.copied,
+    )
+
+pub returns-then-self-gt0-clause-visited : goal.returns-then-self-gt0-clause-visited
+returns-then-self-gt0-clause-visited c =
+    let same : c.self.inside.journal.items ≡ c.args.self.now.journal = ap (λ (s : SearchState). s.journal) c.self.view_is in
+    let copied : IsCopied c.self.inside.game.now c.self.inside.journal.items c.self.inside.course c.self.inside.back c.copy_visit.new.journal.items c.copy_visit.new.course = c.in_ok-copy_visit.ensures.copied in
+    let visit : Visit = renumbered c.self.inside.course.trial copied.visit in
+    λ _. (visit, copied.longer_is ∙ ap (λ (vs : List Visit). vs ++ visit ∷ []) same)
 
 pub returns-clause-task : goal.returns-clause-task
 returns-clause-task c = ap (λ (s : SearchState). s.task) c.self.view_is

@@ -1,6 +1,5 @@
 use Rattle.std.proofs.Common.{arith, length, rules, ap, subst, sym, ◌*◌, ◌≡◌, ◌≤◌, ℕ}
-use Rattle.controller.specs.Data.{fraction_data}
-use Rattle.hsvi_trial.specs.Data.{SearchState, search_state}
+use Rattle.hsvi_trial.specs.Data.{SearchState}
 use Rattle.hsvi_trial.specs.Laws.{IsRunFront, most_visits}
 use Rattle.hsvi_trial.proofs.Fronts.{run-front}
 use Rattle.hsvi_trial.proofs.Holding.{few-visits}
