@@ -1,3 +1,10 @@
 pub mod Places
 pub mod Moments
 pub mod Begun
+pub mod Branches
+pub mod Lengths
+pub mod GainLimit
+pub mod Leading
+pub mod OwnPlays
+pub mod StartPlays
+pub mod Shapes

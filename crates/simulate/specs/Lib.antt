@@ -1,3 +1,4 @@
 pub mod Choices
 pub mod Plays
 pub mod Lengths
+pub mod DrawnPlays

@@ -30,10 +30,12 @@ pub record CanStand (g : GameData) (k : CertificateData) (at : Standing) : Type 
 abbrev pub state_drawn : GameData → Lcg → ℕ
 state_drawn g draws = place_drawn draws (map (first_at g) (below g.shape.states))
 
--- A member is drawn over starts by weights. From one start alone it is that one, and nothing is drawn.
+-- A start is drawn over starts by weights. Alone it is taken, and nothing is drawn.
+abbrev pub start_place : List (ℕ × ℤ) → List ℕ → Lcg → ℕ
+start_place starts weights draws = if length starts == 1 then 0 else place_drawn draws weights
+
 abbrev pub member_drawn : List (ℕ × ℤ) → List ℕ → Lcg → ℕ
-member_drawn starts weights draws =
-    (slice_index_or starts (if length starts == 1 then 0 else place_drawn draws weights) (0, pos 0)).0
+member_drawn starts weights draws = (slice_index_or starts (start_place starts weights draws) (0, pos 0)).0
 
 abbrev pub draws_over : List (ℕ × ℤ) → ℕ
 draws_over starts = if length starts == 1 then 0 else 1

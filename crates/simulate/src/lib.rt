@@ -2,9 +2,15 @@
 #![tactic(auto)]
 
 mod choices;
+mod gains;
+mod laws;
 mod parts;
+mod plays;
 mod stages;
 mod starts;
 mod weights;
 
+pub use gains::longest;
+pub use laws::law_play;
 pub use parts::{PlayLog, Played, Rival};
+pub use plays::play;

@@ -40,7 +40,7 @@ pub fn draw_start_node(
 }
 
 /// The member that is drawn over starts by weights; from one start alone it is that one, and nothing is drawn.
-fn draw_member(draw: &mut Draw, starts: &[(u32, i128)], weights: &[u128]) -> u32
+pub fn draw_member(draw: &mut Draw, starts: &[(u32, i128)], weights: &[u128]) -> u32
     requires same { length weights.now ≡ length starts.now }
     requires some { 1 ≤ sum weights.now }
     requires most { sum weights.now < 2 ^ 128 }
