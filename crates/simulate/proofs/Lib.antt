@@ -8,3 +8,5 @@ pub mod Leading
 pub mod OwnPlays
 pub mod StartPlays
 pub mod Shapes
+pub mod Mixed
+pub mod ShareDraws

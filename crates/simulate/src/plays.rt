@@ -100,6 +100,7 @@ fn begin(
     ensures moved { OnOk result (draw.new ≡ after_draws (begin_draws certificate.now against) draw.old) }
     ensures stands { IfOk result (CanStand game.now certificate.now) }
 {
+    law_game(game);
     let state = draw_state(alloc, game, draw)?;
     let node = draw_start_node(alloc, game, certificate, draw)?;
     let point = draw_start_point(alloc, game, certificate, draw, state, against)?;
