@@ -4,7 +4,7 @@ use Rattle.std.specs.Prelude.{ℤ, pos, ◌*ℤ◌, ◌≤ℤ◌, unsigned_abs, 
 use Rattle.std.specs.List.{AllByRecursion, sum, sum_by}
 use Rattle.std.proofs.lemmas.Int.{ints, unsigned_abs-mul}
 use Rattle.std.proofs.lemmas.Nat.{mul-le}
-use Rattle.std.proofs.lemmas.List.Sums.{sum_by-cons}
+use Rattle.std.proofs.lemmas.List.Sums.{sum-map, sum_by-cons}
 use Rattle.scaled_num.specs.Share.{at}
 use Rattle.scaled_num.specs.Sums.{below}
 use Rattle.scaled_num.proofs.Products.{magnitude-is}
@@ -20,7 +20,7 @@ use Rattle.controller.specs.Starts.{AreStarts, IsStart, most_from, most_over, we
 use Rattle.controller.proofs.Members.{pos_same, sum-abs}
 use Rattle.controller.proofs.Places.{rules as stand_rules}
 use Rattle.controller.proofs.StartSums.{first-total-within}
-use Rattle.simulate.specs.Choices.{place_drawn}
+use Rattle.simulate.specs.Choices.{IsLight, place_drawn}
 use Rattle.simulate.specs.Plays.{CanStand, begun, draws_over, from_weights, member_drawn, over_weights, start_point, state_drawn}
 use Rattle.simulate.specs.declared.parts.Rival.{Rival}
 use Rattle.simulate.specs.declared.parts.Rival.TheVariants.{Points, Uniform}
@@ -95,6 +95,34 @@ over-some g k s stands ls some =
     let low = stands.fits.starts.multiple.0 in
     let times : 1 ≤ unsigned_abs k.multiple = omega (arith, ints) in
     omega (arith, over-sum g k s stands ls, mul-le 1 1 (unsigned_abs k.multiple) (first_at g s) times some)
+
+-- the weights of the start points, as they are drawn over
+pub over-total : (g : GameData) (k : CertificateData) (s : ℕ) → CertificateStands g k → s < g.shape.states → sum (over_weights k s) ≡ unsigned_abs k.multiple * first_at g s
+over-total g k s stands ls =
+    sum-map (λ (start : ℕ × ℤ). unsigned_abs start.1 * (points_of k.points start.0).belief s) k.start_points ∙ over-sum g k s stands ls
+
+first-small : (g : GameData) (s : ℕ) → IsGame g → s < g.shape.states → first_at g s ≤ 2 ^ 20
+first-small g s game ls =
+    small _ (each-at (IsWithin (pos 0) (pos (2 ^ 20))) (pos 0) g.first s game.first.each (subst (λ (n : ℕ). s < n) (sym game.first.long) ls))
+  where
+    small : (x : ℤ) → IsWithin (pos 0) (pos (2 ^ 20)) x → unsigned_abs x ≤ 2 ^ 20
+    small x h = let low = h.0 in let high = h.1 in omega (arith, ints)
+
+pub over-small : (g : GameData) (k : CertificateData) (s : ℕ) → IsGame g → CertificateStands g k → s < g.shape.states → sum (over_weights k s) ≤ 65536 * 2 ^ 20
+over-small g k s game stands ls =
+    let high = stands.fits.starts.multiple.1 in
+    let low = stands.fits.starts.multiple.0 in
+    let times : unsigned_abs k.multiple ≤ 65536 = omega (arith, ints) in
+    let product = mul-le (unsigned_abs k.multiple) (first_at g s) 65536 (2 ^ 20) times (first-small g s game ls) in
+    omega (arith, over-total g k s stands ls, product)
+
+-- each of them is light
+pub starts-light : (g : GameData) (k : CertificateData) → CertificateFits g k → AllByRecursion (λ (start : ℕ × ℤ). IsLight (length k.points) start.0 start.1) k.start_points
+starts-light g k fits =
+    each-from (IsStart (length k.points) (pos most_over)) _ k.start_points (λ start h. (h.0, light start.1 h.1)) fits.starts.over.each
+  where
+    light : (x : ℤ) → IsWithin (pos 1) (pos (2 ^ 36)) x → unsigned_abs x ≤ 2 ^ 66
+    light x h = let low = h.0 in let high = h.1 in omega (arith, ints)
 
 pub point-start : (g : GameData) (k : CertificateData) (against : Rival) (s : ℕ) (draws : Lcg) → CertificateStands g k → s < g.shape.states → 1 ≤ first_at g s →
     IfSome (start_point k against s draws) (λ j. j < length k.points)

@@ -37,8 +37,14 @@ gain-most g game (played ∷ rest) h =
     let reward : ℤ = (numbers g).reward played.state played.own played.informed in
     let product : unsigned_abs (reward *ℤ pos (Q ^ suc n)) ≡ unsigned_abs reward * (Q ^ n * Q) = unsigned_abs-mul reward (pos (Q ^ suc n)) ∙ ap (λ (x : ℕ). unsigned_abs reward * x) (power Q n) in
     let limit : suc n * R * Q ^ suc n ≡ suc n * R * (Q ^ n * Q) = ap (λ (x : ℕ). suc n * R * x) (power Q n) in
-    omega (arith, abs-add (reward *ℤ pos (Q ^ suc n)) (pos P *ℤ gain_of (numbers g) rest), product, limit, unsigned_abs-mul (pos P) (gain_of (numbers g) rest),
-      step R Q P (unsigned_abs reward) (unsigned_abs (gain_of (numbers g) rest)) n (Q ^ n) (reward-most g game played h.0) (has-limits g game).over (gain-most g game rest h.1))
+    omega (
+      arith,
+      abs-add (reward *ℤ pos (Q ^ suc n)) (pos P *ℤ gain_of (numbers g) rest),
+      product,
+      limit,
+      unsigned_abs-mul (pos P) (gain_of (numbers g) rest),
+      step R Q P (unsigned_abs reward) (unsigned_abs (gain_of (numbers g) rest)) n (Q ^ n) (reward-most g game played h.0) (has-limits g game).over (gain-most g game rest h.1),
+    )
 
 -- ---- the last stages of a play
 each-drop : {X : Type 0} (P : X → Type 0) (n : ℕ) (xs : List X) → AllByRecursion P xs → AllByRecursion P (drop n xs)

@@ -1,5 +1,5 @@
 -- What is simulated is in the game, and as long as the stages.
-use Rattle.std.proofs.Common.{◌≡◌, ℕ, zero, suc, ◌+◌, length, ap, refl}
+use Rattle.std.proofs.Common.{◌≡◌, ℕ, zero, suc, ◌+◌, List, ◌∷◌, length, ap, refl, sym, ◌∙◌}
 use Rattle.std.specs.List.{AllByRecursion}
 use Rattle.rand_pcg.specs.Lcg.{Lcg}
 use Rattle.hsvi_draw.specs.Draws.{after_draws, seeded}
@@ -34,3 +34,11 @@ simulated-long g k seed n against = steps-long g k n (begun g k against (seeded 
 pub simulated-in_game : (g : GameData) (k : CertificateData) (seed n : ℕ) (against : Rival) → IsGame g → CertificateStands g k → AllByRecursion (IsInGame g) (simulated g k seed n against)
 simulated-in_game g k seed n against game stands =
     steps-in_game g k n (begun g k against (seeded seed)) (after_draws (begin_draws k against) (seeded seed)) game stands.fits (begun-right g k against (seeded seed) game stands)
+
+-- one stage, and those after it
+pub steps-next : (g : GameData) (k : CertificateData) (n m : ℕ) (at next : Standing) (draws later last : Lcg) (played : Played) → n ≡ suc m → played ≡ played_at g k at draws → later ≡ after_draws 3 draws →
+    next ≡ moved k at played later → last ≡ after_draws (move_draws k at played) later → played ∷ steps_from g k m next last ≡ steps_from g k n at draws
+steps-next g k n m at next draws later last played n_is played_is later_is next_is last_is =
+    let rest : Played → Lcg → List Played = λ (p : Played) (l : Lcg). p ∷ steps_from g k m (moved k at p l) (after_draws (move_draws k at p) l) in
+    ap (λ (x : Standing). played ∷ steps_from g k m x last) next_is ∙ ap (λ (l : Lcg). played ∷ steps_from g k m (moved k at played later) l) last_is
+    ∙ ap (λ (l : Lcg). rest played l) later_is ∙ ap (λ (p : Played). rest p (after_draws 3 draws)) played_is ∙ ap (λ (i : ℕ). steps_from g k i at draws) (sym n_is)

@@ -80,7 +80,7 @@ drawn_play g k seed (suc n) against =
     let played = played_at g k at first in
     let later = after_draws 3 first in
     step_of played (nodes_before k n i played + node_place k at.node played later)
-        (points_before g k against at.state n j played + point_place k at.point played (after_draws 1 later))
+    (points_before g k against at.state n j played + point_place k at.point played (after_draws 1 later))
     ∷ drawn_from g k n (moved k at played later) (after_draws (move_draws k at played) later)
 
 -- what a play from a first state shows: states, actions and observations

@@ -77,6 +77,7 @@ fn play_stages(
     requires first { CanStand game.now certificate.now first }
     ensures { IfOk result (λ steps. steps.items ≡ steps_from game.now certificate.now stages first draw.old) }
 {
+    law_game(game);
     let mut at = first;
     let mut steps = Vec::new(alloc);
     for _ in 0..stages {
@@ -122,6 +123,7 @@ fn draw_start_point(
     ensures point { IfOk result (λ point. point ≡ start_point certificate.now against state draw.old) }
     ensures moved { OnOk result (draw.new ≡ after_draws (point_draws certificate.now against) draw.old) }
 {
+    law_game(game);
     match against {
         Rival::Uniform => Ok(None),
         Rival::Points => {

@@ -153,7 +153,11 @@ fn draw_node(
     ensures node { IfOk result (λ node. node ≡ node_drawn certificate.now at.now.node played.now draw.old) }
     ensures moved { OnOk result (draw.new ≡ after_draws 1 draw.old) }
 {
-    let steps = branches_after(&certificate.nodes.node(at.node).next, played.own, played.seen);
+    let steps = branches_after(
+        &certificate.nodes.node(at.node).next,
+        played.own,
+        played.seen,
+    );
     let weights = branch_weights(alloc, steps)?;
     Ok(steps[draw_place(draw, &weights)].k)
 }
@@ -211,8 +215,7 @@ fn branches_after(branches: &[Branch], a: u32, o: u32) -> &[Branch]
     requires { AreRising (map branch_of branches.now) }
     ensures { result.now ≡ filter (IsAfter a o) branches.now }
 {
-    let start =
-        branches.partition_point(|branch| branch.a < a || (branch.a == a && branch.o < o));
+    let start = branches.partition_point(|branch| branch.a < a || (branch.a == a && branch.o < o));
     let rest = &branches[start..];
     let count = rest.partition_point(|branch| branch.a == a && branch.o == o);
     &rest[..count]

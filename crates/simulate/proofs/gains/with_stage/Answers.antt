@@ -72,6 +72,6 @@ returns c =
     let l : ℤ = c.args.later in
     let over = magnitude-is g.shape.discount.0 c.law_game.ensures.accepted.shape.discount.0 in
     let is = ap (λ (z : ℤ). z *ℤ pos p +ℤ c.discount-over.result.0 *ℤ l) c.reward.ensures
-        ∙ ap (λ (d : ℤ × ℤ). (numbers g).reward c.args.step.now.state c.args.step.now.own c.args.step.now.informed *ℤ pos p +ℤ d.0 *ℤ l) c.discount-over.ensures
-        ∙ ap (λ (z : ℤ). (numbers g).reward c.args.step.now.state c.args.step.now.own c.args.step.now.informed *ℤ pos p +ℤ z *ℤ l) over in
+    ∙ ap (λ (d : ℤ × ℤ). (numbers g).reward c.args.step.now.state c.args.step.now.own c.args.step.now.informed *ℤ pos p +ℤ d.0 *ℤ l) c.discount-over.ensures
+    ∙ ap (λ (z : ℤ). (numbers g).reward c.args.step.now.state c.args.step.now.own c.args.step.now.informed *ℤ pos p +ℤ z *ℤ l) over in
     simp (to_z-of_z, to_z_pos) is

@@ -34,13 +34,13 @@ sum_of-requires c =
     let few = shares-few g k c.args.j c.args.played.now.own c.args.played.now.seen c.deref.result.now shares c.requires.stands.fits c.requires.point splits c.branches_after-shares.ensures in
     let small = brought-small g k c.args.played.now.to shares c.requires.stands.fits c.requires.to few light in
     let is = ap sum (c.deref-2.ensures.value ∙ c.in_ok-weights.ensures
-        ∙ ap (λ (m : CertificateData). map (λ (b : BranchParts). unsigned_abs b.weight * (points_of m.points b.k).belief c.args.played.now.to) shares) c.certificate.view_is) in
+    ∙ ap (λ (m : CertificateData). map (λ (b : BranchParts). unsigned_abs b.weight * (points_of m.points b.k).belief c.args.played.now.to) shares) c.certificate.view_is) in
     omega (arith, is, small)
 
 pub returns-then-sum_of-eq0-clause-point : goal.returns-then-sum_of-eq0-clause-point
 returns-then-sum_of-eq0-clause-point c =
     let drawn = are-drawn c.args.certificate.now c.args.j c.args.played.now _ _ c.deref.result.now c.branches_after-shares.result.now c.deref-2.result.now
-        (ap (λ (m : CertificateData). m.points) c.certificate.view_is) (ap (map branch_of) c.deref.ensures.value) c.point.ensures c.branches_after-shares.ensures (c.deref-2.ensures.value ∙ c.in_ok-weights.ensures) in
+    (ap (λ (m : CertificateData). m.points) c.certificate.view_is) (ap (map branch_of) c.deref.ensures.value) c.point.ensures c.branches_after-shares.ensures (c.deref-2.ensures.value ∙ c.in_ok-weights.ensures) in
     let test = c.if-sum_of-eq0.true in
     let is = c.sum_of.ensures in
     zero-point c.args.certificate.now c.args.j c.args.played.now c.branches_after-shares.result.now c.deref-2.result.now c.args.draw.now drawn (omega (arith, test, is))
@@ -48,7 +48,7 @@ returns-then-sum_of-eq0-clause-point c =
 pub returns-then-sum_of-eq0-clause-moved : goal.returns-then-sum_of-eq0-clause-moved
 returns-then-sum_of-eq0-clause-moved c =
     let drawn = are-drawn c.args.certificate.now c.args.j c.args.played.now _ _ c.deref.result.now c.branches_after-shares.result.now c.deref-2.result.now
-        (ap (λ (m : CertificateData). m.points) c.certificate.view_is) (ap (map branch_of) c.deref.ensures.value) c.point.ensures c.branches_after-shares.ensures (c.deref-2.ensures.value ∙ c.in_ok-weights.ensures) in
+    (ap (λ (m : CertificateData). m.points) c.certificate.view_is) (ap (map branch_of) c.deref.ensures.value) c.point.ensures c.branches_after-shares.ensures (c.deref-2.ensures.value ∙ c.in_ok-weights.ensures) in
     let test = c.if-sum_of-eq0.true in
     let is = c.sum_of.ensures in
     zero-draws c.args.certificate.now c.args.j c.args.played.now c.branches_after-shares.result.now c.deref-2.result.now c.args.draw.now drawn (omega (arith, test, is))
@@ -57,7 +57,7 @@ pub returns-clause-point : goal.returns-clause-point
 returns-clause-point c =
     let weights = c.deref-3.ensures.value ∙ c.in_ok-weights.ensures in
     let drawn = are-drawn c.args.certificate.now c.args.j c.args.played.now _ _ c.deref.result.now c.branches_after-shares.result.now c.deref-3.result.now
-        (ap (λ (m : CertificateData). m.points) c.certificate.view_is) (ap (map branch_of) c.deref.ensures.value) c.point.ensures c.branches_after-shares.ensures weights in
+    (ap (λ (m : CertificateData). m.points) c.certificate.view_is) (ap (map branch_of) c.deref.ensures.value) c.point.ensures c.branches_after-shares.ensures weights in
     let test = c.if-sum_of-eq0.false in
     let is = c.sum_of.ensures ∙ ap sum (c.deref-2.ensures.value ∙ sym c.deref-3.ensures.value) in
     some-point c.args.certificate.now c.args.j c.args.played.now c.branches_after-shares.result.now c.deref-3.result.now c.args.draw.now c.draw_place.result _ drawn
@@ -67,7 +67,7 @@ pub returns-clause-moved : goal.returns-clause-moved
 returns-clause-moved c =
     let weights = c.deref-3.ensures.value ∙ c.in_ok-weights.ensures in
     let drawn = are-drawn c.args.certificate.now c.args.j c.args.played.now _ _ c.deref.result.now c.branches_after-shares.result.now c.deref-3.result.now
-        (ap (λ (m : CertificateData). m.points) c.certificate.view_is) (ap (map branch_of) c.deref.ensures.value) c.point.ensures c.branches_after-shares.ensures weights in
+    (ap (λ (m : CertificateData). m.points) c.certificate.view_is) (ap (map branch_of) c.deref.ensures.value) c.point.ensures c.branches_after-shares.ensures weights in
     let test = c.if-sum_of-eq0.false in
     let is = c.sum_of.ensures ∙ ap sum (c.deref-2.ensures.value ∙ sym c.deref-3.ensures.value) in
     c.draw_place.ensures.moved
