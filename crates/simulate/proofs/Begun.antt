@@ -1,6 +1,6 @@
 -- What the start of a play draws is of the game and of the certificate.
-use Rattle.std.proofs.Common.{◌≡◌, ℕ, zero, suc, ◌+◌, ◌*◌, ◌^◌, ◌<◌, ◌≤◌, ◌==◌, Bool, true, false, List, [], ◌∷◌, length, get_or, map, ap, arith, rules, refl, sym, subst, ◌∙◌}
-use Rattle.std.specs.Prelude.{ℤ, pos, ◌*ℤ◌, ◌≤ℤ◌, unsigned_abs, Option, Some, None, IfSome, if◌then◌else◌}
+use Rattle.std.proofs.Common.{◌≡◌, ℕ, ◌+◌, ◌*◌, ◌^◌, ◌<◌, ◌≤◌, ◌==◌, Bool, true, false, List, [], ◌∷◌, length, map, ap, arith, rules, sym, subst, ◌∙◌}
+use Rattle.std.specs.Prelude.{ℤ, pos, ◌*ℤ◌, ◌≤ℤ◌, unsigned_abs, IfSome, if◌then◌else◌}
 use Rattle.std.specs.List.{AllByRecursion, sum, sum_by}
 use Rattle.std.proofs.lemmas.Int.{ints, unsigned_abs-mul}
 use Rattle.std.proofs.lemmas.Nat.{mul-le}
@@ -14,17 +14,17 @@ use Rattle.hsvi_draw.specs.Draws.{after_draws}
 use Rattle.game_model.specs.Game.{GameData, IsGame, IsWithin, first_at}
 use Rattle.game_model.proofs.Pay.{each-from}
 use Rattle.point_set.specs.Corners.{point_at}
-use Rattle.point_set.specs.Points.{PointData, PointFits, no_point, points_of}
+use Rattle.point_set.specs.Points.{PointFits, no_point, points_of}
 use Rattle.controller.specs.Certificates.{CertificateData, CertificateFits, CertificateStands}
-use Rattle.controller.specs.Starts.{AreStarts, IsStart, most_from, most_over, weights_sum}
-use Rattle.controller.proofs.Members.{pos_same, sum-abs}
+use Rattle.controller.specs.Starts.{AreStarts, IsStart, most_from, most_over}
+use Rattle.controller.proofs.Members.{sum-abs}
 use Rattle.controller.proofs.Places.{rules as stand_rules}
 use Rattle.controller.proofs.StartSums.{first-total-within}
 use Rattle.simulate.specs.Choices.{IsLight, place_drawn}
 use Rattle.simulate.specs.Plays.{CanStand, begun, draws_over, from_weights, member_drawn, over_weights, start_point, state_drawn}
 use Rattle.simulate.specs.declared.parts.Rival.{Rival}
 use Rattle.simulate.specs.declared.parts.Rival.TheVariants.{Points, Uniform}
-use Rattle.simulate.proofs.Places.{IsItem, IsSome, drawn-below, drawn-item}
+use Rattle.simulate.proofs.Places.{IsSome, drawn-below, drawn-item}
 
 -- ---- the first state
 pub state-sum : (g : GameData) → IsGame g → (1 ≤ sum_by (first_at g) (below g.shape.states)) × (sum_by (first_at g) (below g.shape.states) ≤ 2 ^ 20)

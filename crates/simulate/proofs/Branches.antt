@@ -1,6 +1,6 @@
 -- The branches of the program after an own action and an observation, as continuations.
 use Rattle.std.proofs.Common.{◌≡◌, ℕ, suc, ◌+◌, ◌*◌, ◌^◌, ◌<◌, ◌≤◌, List, [], ◌∷◌, length, get_or, map, filter, ap, arith, refl, sym, subst, ◌∙◌}
-use Rattle.std.specs.Prelude.{ℤ, pos, ◌≤ℤ◌, unsigned_abs}
+use Rattle.std.specs.Prelude.{ℤ, pos, unsigned_abs}
 use Rattle.std.specs.List.{AllByRecursion, sum, sum_by}
 use Rattle.std.proofs.lemmas.Int.{ints}
 use Rattle.std.proofs.lemmas.Nat.{mul-le}
@@ -11,7 +11,7 @@ use Rattle.scaled_num.specs.Sums.{below}
 use Rattle.scaled_num.proofs.Each.{each-of-map}
 use Rattle.scaled_num.proofs.Sums.{each-at}
 use Rattle.belief.proofs.Landings.{each-filter}
-use Rattle.game_model.specs.Branches.{AreBranches, AreRising, Branch, Continuation, IsBranch, branch_of, continuation_of, continuations_at, mix_total}
+use Rattle.game_model.specs.Branches.{AreRising, Branch, Continuation, IsBranch, branch_of, continuation_of, continuations_at, mix_total}
 use Rattle.game_model.specs.Game.{GameData, IsWithin, numbers}
 use Rattle.game_model.specs.declared.branches.Branch.{Branch as BranchParts}
 use Rattle.game_model.proofs.Pay.{each-from}

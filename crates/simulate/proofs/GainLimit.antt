@@ -1,6 +1,6 @@
 -- The gain of steps is within the limit of plays.
-use Rattle.std.proofs.Common.{◌≡◌, ℕ, zero, suc, ◌+◌, ◌*◌, ◌^◌, ◌<◌, ◌≤◌, ◌-◌, List, [], ◌∷◌, drop, get_or, length, length-drop, arith, ap, sym, subst, ◌∙◌}
-use Rattle.std.specs.Prelude.{ℤ, pos, ◌+ℤ◌, ◌*ℤ◌, ◌<ℤ◌, ◌≤ℤ◌, FitsSigned, max, unsigned_abs}
+use Rattle.std.proofs.Common.{◌≡◌, ℕ, zero, suc, ◌+◌, ◌*◌, ◌^◌, ◌<◌, ◌≤◌, ◌-◌, List, [], ◌∷◌, drop, get_or, length, length-drop, arith, ap, ◌∙◌}
+use Rattle.std.specs.Prelude.{ℤ, pos, ◌+ℤ◌, ◌*ℤ◌, FitsSigned, max, unsigned_abs}
 use Rattle.std.specs.List.{AllByRecursion}
 use Rattle.std.proofs.lemmas.Int.{fits_signed_from_abs, unsigned_abs-mul}
 use Rattle.std.specs.Int.{w128}
@@ -8,7 +8,7 @@ use Rattle.std.proofs.Math.Nat.{one-le-pow, pow-zero}
 use Rattle.std.proofs.Math.Seq.{drop-cons}
 use Rattle.std.proofs.lemmas.Nat.{mul-le}
 use Rattle.scaled_num.proofs.Products.{abs-add}
-use Rattle.game_model.specs.Game.{GameData, IsGame, greatest_reward, numbers, reward_at}
+use Rattle.game_model.specs.Game.{GameData, IsGame, greatest_reward, numbers}
 use Rattle.game_model.proofs.Games.{reward-bound}
 use Rattle.simulate.specs.Lengths.{IsInGame, IsShortPlay, most_gain}
 use Rattle.simulate.specs.Plays.{gain_of}

@@ -1,12 +1,12 @@
 -- How long plays may be.
-use Rattle.std.proofs.Common.{◌≡◌, ℕ, zero, suc, ◌+◌, ◌-◌, ◌*◌, ◌/◌, ◌%◌, ◌^◌, ◌<◌, ◌≤◌, max, List, [], ◌∷◌, length, get_or, drop, ap, arith, refl, sym, subst, ◌∙◌}
+use Rattle.std.proofs.Common.{◌≡◌, ℕ, zero, suc, ◌+◌, ◌*◌, ◌/◌, ◌%◌, ◌^◌, ◌<◌, ◌≤◌, max, List, [], ◌∷◌, ap, arith, ◌∙◌}
 use native.Mathlib.Numerals.{unary_clauses}
-use Rattle.std.specs.Prelude.{ℤ, pos, ◌≤ℤ◌, ◌<ℤ◌, ◌↔◌, fold, unsigned_abs}
+use Rattle.std.specs.Prelude.{ℤ, fold, unsigned_abs}
 use Rattle.std.specs.List.{AllByRecursion}
 use Rattle.std.proofs.Math.Nat.{pow-le-pow_right, pow-zero}
 use Rattle.std.proofs.lemmas.Int.{ints}
 use Rattle.std.proofs.lemmas.Nat.{div-add-mod', div_below, le-div, mod_below, mul-le}
-use Rattle.game_model.specs.Game.{GameData, IsGame, IsNarrow, IsRewardInRange, greatest_reward, numbers}
+use Rattle.game_model.specs.Game.{GameData, IsGame, IsRewardInRange, greatest_reward, numbers}
 use Rattle.game_model.proofs.Pay.{each-from}
 use Rattle.simulate.specs.Lengths.{IsLongest, IsShortPlay, most_gain}
 

@@ -1,22 +1,21 @@
 -- What a stage draws is of the game and of the certificate.
-use Rattle.std.proofs.Common.{◌≡◌, ℕ, zero, suc, ◌+◌, ◌*◌, ◌%◌, ◌^◌, ◌<◌, ◌≤◌, ◌==◌, Bool, true, false, List, length, get_or, map, ap, arith, rules, refl, sym, subst, ◌∙◌}
-use Rattle.std.specs.Prelude.{ℤ, pos, unsigned_abs, Option, Some, None, IfSome, if◌then◌else◌}
-use Rattle.std.specs.List.{AllByRecursion, sum, sum_by}
+use Rattle.std.proofs.Common.{◌≡◌, ℕ, ◌*◌, ◌^◌, ◌<◌, ◌≤◌, ◌==◌, Bool, true, false, List, length, arith, rules, refl, subst}
+use Rattle.std.specs.Prelude.{pos, unsigned_abs, Option, Some, None, IfSome, if◌then◌else◌}
+use Rattle.std.specs.List.{sum, sum_by}
 use Rattle.std.proofs.lemmas.Int.{ints}
 use Rattle.std.proofs.lemmas.List.Sums.{sum-map}
 use Rattle.scaled_num.specs.Sums.{below}
 use Rattle.scaled_num.proofs.Sums.{each-at}
 use Rattle.rand_pcg.specs.Lcg.{Lcg}
-use Rattle.hsvi_draw.specs.Draws.{after_draws, draw_at}
+use Rattle.hsvi_draw.specs.Draws.{after_draws}
 use Rattle.game_model.specs.declared.parts.Landing.{Landing}
 use Rattle.game_model.specs.Branches.{Continuation, mix_total}
 use Rattle.game_model.specs.Build.{landing_of}
 use Rattle.game_model.specs.Game.{GameData, IsGame, IsLanding, row_at}
 use Rattle.game_model.proofs.Games.{row-in, row-weights}
 use Rattle.alpha_set.specs.Nodes.{nodes_of, steps_at}
-use Rattle.point_set.specs.Points.{points_of, shares_at}
+use Rattle.point_set.specs.Points.{points_of}
 use Rattle.controller.specs.Certificates.{CertificateData, CertificateFits}
-use Rattle.controller.specs.Members.{NodeKeeps, PointKeeps}
 use Rattle.controller.proofs.Members.{nodes-keep, points-keep}
 use Rattle.simulate.specs.Choices.{place_drawn}
 use Rattle.simulate.specs.Plays.{CanPlay, CanStand, informed_drawn, landing_drawn, moved, next_drawn, no_continuation, node_drawn, own_drawn, played_at, point_drawn, row_weights, share_weights, shares_after, step_weights}

@@ -1,29 +1,28 @@
 -- The play that a seed draws is one of the certificate's own plans, and weighs something.
-use Rattle.std.proofs.Common.{◌≡◌, ◌≢◌, ℕ, zero, suc, ◌+◌, ◌*◌, ◌/◌, ◌<◌, ◌≤◌, ◌==◌, ◌&&◌, Bool, true, false, List, [], ◌∷◌, length, get_or, map, take, ap, arith, ne_eqb, eq-eqb, rules, refl, sym, subst, ◌∙◌}
-use Rattle.std.specs.Prelude.{ℤ, pos, cond, sum_by, unsigned_abs, Option, Some, None, IfSome, if◌then◌else◌}
+use Rattle.std.proofs.Common.{◌≡◌, ◌≢◌, ℕ, zero, suc, ◌*◌, ◌/◌, ◌<◌, ◌≤◌, ◌==◌, ◌&&◌, Bool, true, false, List, [], ◌∷◌, length, get_or, map, arith, eq-eqb, rules, refl, sym, subst, ◌∙◌}
+use Rattle.std.specs.Prelude.{pos, cond, unsigned_abs, Option, Some, None, IfSome, if◌then◌else◌}
 use Rattle.std.specs.List.{sum}
-use Rattle.std.proofs.lemmas.List.{get_or-map, length-map}
-use Rattle.std.proofs.lemmas.List.Sums.{sum-map, sum_by-cons, sum_by_more_le}
+use Rattle.std.proofs.lemmas.List.Sums.{sum-map, sum_by_more_le}
 use Rattle.std.proofs.lemmas.Nat.{mul-le}
 use Rattle.rand_pcg.specs.Lcg.{Lcg}
 use Rattle.hsvi_draw.specs.Draws.{after_draws}
 use Rattle.game_model.specs.declared.parts.Landing.{Landing}
 use Rattle.game_model.specs.Branches.{Continuation}
 use Rattle.game_model.specs.Build.{landing_of}
-use Rattle.game_model.specs.Game.{GameData, IsGame, first_at, numbers, row_at, weight_in}
+use Rattle.game_model.specs.Game.{GameData, IsGame, numbers, row_at, weight_in}
 use Rattle.game_model.specs.Mixed.{scaled_informed, scaled_own}
 use Rattle.game_model.specs.Numbers.{Numbers}
 use Rattle.game_model.specs.Plan.{InformedPlan, OwnPlan}
 use Rattle.game_model.specs.Play.{IsPlay, Step, informed_after, no_informed_plan, no_own_plan, own_after, play_weight}
 use Rattle.alpha_set.specs.Nodes.{nodes_of, steps_at}
-use Rattle.point_set.specs.Points.{mass, points_of, shares_at}
+use Rattle.point_set.specs.Points.{mass, points_of}
 use Rattle.controller.specs.Certificates.{CertificateData, CertificateFits, CertificateStands}
 use Rattle.controller.proofs.Places.{rules as stand_rules}
 use Rattle.history_model.specs.Halves.{common, hold, own, point_plan}
-use Rattle.history_model.specs.Plans.{informed_plan, own_plan}
+use Rattle.history_model.specs.Plans.{own_plan}
 use Rattle.history_model.proofs.Splitting.{masses-divide, product-positive}
 use Rattle.simulate.specs.DrawnPlays.{drawn_from, even, node_place, point_place, step_of}
-use Rattle.simulate.specs.Plays.{CanPlay, CanStand, informed_drawn, move_draws, moved, next_drawn, no_continuation, node_drawn, own_drawn, played_at, point_drawn, row_weights, share_weights, shares_after, step_weights}
+use Rattle.simulate.specs.Plays.{CanPlay, CanStand, informed_drawn, move_draws, moved, next_drawn, no_continuation, node_drawn, own_drawn, played_at, point_drawn, row_weights, share_weights, shares_after}
 use Rattle.simulate.specs.Choices.{place_drawn}
 use Rattle.simulate.specs.declared.parts.Played.{Played}
 use Rattle.simulate.specs.declared.parts.Standing.{Standing}

@@ -1,5 +1,5 @@
 -- The place that is drawn over weights is one of them, and weighs something.
-use Rattle.std.proofs.Common.{◌≡◌, ℕ, zero, suc, ◌+◌, ◌-◌, ◌%◌, ◌<◌, ◌≤◌, Bool, true, false, refl, List, [], ◌∷◌, length, get_or, map, ap, arith, sym, subst, ◌∙◌}
+use Rattle.std.proofs.Common.{◌≡◌, ℕ, suc, ◌+◌, ◌-◌, ◌<◌, ◌≤◌, Bool, true, false, refl, List, [], ◌∷◌, length, get_or, map, arith, sym, subst}
 use Rattle.std.specs.Prelude.{nat_lt, if◌then◌else◌}
 use Rattle.std.specs.List.{sum, sum_by}
 use Rattle.std.proofs.lemmas.List.Sums.{sum-map, sum_by-cons}
@@ -8,7 +8,7 @@ use Rattle.std.proofs.lemmas.List.FromFn.{get_or-map-range_with_len, length-map-
 use Rattle.scaled_num.specs.Sums.{below}
 use Rattle.scaled_num.proofs.Each.{get-map}
 use Rattle.rand_pcg.specs.Lcg.{Lcg}
-use Rattle.hsvi_draw.specs.Draws.{draw_at, number_at}
+use Rattle.hsvi_draw.specs.Draws.{draw_at}
 use Rattle.simulate.specs.Choices.{place_drawn, place_past}
 
 -- a place of a list that weighs something

@@ -1,5 +1,5 @@
 -- What is simulated is in the game, and as long as the stages.
-use Rattle.std.proofs.Common.{◌≡◌, ℕ, zero, suc, ◌+◌, List, ◌∷◌, length, ap, refl, sym, ◌∙◌}
+use Rattle.std.proofs.Common.{◌≡◌, ℕ, zero, suc, List, ◌∷◌, length, ap, refl, sym, ◌∙◌}
 use Rattle.std.specs.List.{AllByRecursion}
 use Rattle.rand_pcg.specs.Lcg.{Lcg}
 use Rattle.hsvi_draw.specs.Draws.{after_draws, seeded}

@@ -1,6 +1,6 @@
 -- The next point, as it is drawn over shares.
-use Rattle.std.proofs.Common.{◌≡◌, ◌≢◌, ℕ, ◌*◌, ◌<◌, ◌==◌, Bool, true, false, List, length, get_or, map, filter, ap, eq-eqb, ne_eqb, refl, sym, subst, ◌∙◌}
-use Rattle.std.specs.Prelude.{unsigned_abs, Option, Some, None, if◌then◌else◌}
+use Rattle.std.proofs.Common.{◌≡◌, ◌≢◌, ℕ, ◌*◌, ◌<◌, Bool, List, length, get_or, map, filter, ap, eq-eqb, ne_eqb, sym, subst, ◌∙◌}
+use Rattle.std.specs.Prelude.{unsigned_abs, Some, if◌then◌else◌}
 use Rattle.std.specs.List.{sum}
 use Rattle.std.proofs.lemmas.List.{length-map}
 use Rattle.rand_pcg.specs.Lcg.{Lcg}

@@ -1,10 +1,9 @@
 -- The first stage of the play that a seed draws: the plans have the branches of all their starts.
-use Rattle.std.proofs.Common.{◌≡◌, ◌≢◌, ℕ, zero, suc, ◌+◌, ◌*◌, ◌/◌, ◌^◌, ◌<◌, ◌≤◌, ◌==◌, Bool, true, false, List, [], ◌∷◌, length, get_or, map, ap, arith, ne_eqb, refl, sym, subst, ◌∙◌}
-use Rattle.std.specs.Prelude.{ℤ, pos, ◌+ℤ◌, ◌*ℤ◌, cond, sum_by, unsigned_abs, Option, Some, None, if◌then◌else◌}
+use Rattle.std.proofs.Common.{◌≡◌, ℕ, zero, suc, ◌+◌, ◌*◌, ◌/◌, ◌^◌, ◌<◌, ◌≤◌, ◌==◌, Bool, true, false, List, [], ◌∷◌, length, get_or, map, ap, arith, ne_eqb, refl, sym, subst, ◌∙◌}
+use Rattle.std.specs.Prelude.{ℤ, pos, ◌+ℤ◌, ◌*ℤ◌, cond, sum_by, unsigned_abs, Some, if◌then◌else◌}
 use Rattle.std.specs.List.{range_with_len}
 use Rattle.std.proofs.lemmas.List.{get_or-map, length-map}
 use Rattle.std.proofs.lemmas.List.Sums.{sum_by-cons}
-use Rattle.scaled_num.proofs.Sums.{each-at}
 use Rattle.rand_pcg.specs.Lcg.{Lcg}
 use Rattle.hsvi_draw.specs.Draws.{after_draws, seeded}
 use Rattle.game_model.specs.Game.{GameData, IsGame, first_at, numbers}
@@ -14,14 +13,13 @@ use Rattle.game_model.specs.Numbers.{Numbers}
 use Rattle.game_model.specs.Play.{Step, gain, no_informed_plan, no_own_plan}
 use Rattle.alpha_set.specs.Nodes.{nodes_of}
 use Rattle.point_set.specs.Points.{points_of}
-use Rattle.controller.specs.Certificates.{CertificateData, CertificateFits, CertificateStands}
-use Rattle.controller.specs.Starts.{IsStart, most_over}
+use Rattle.controller.specs.Certificates.{CertificateData, CertificateStands}
 use Rattle.history_model.specs.Halves.{first_weights, from_total, hold, node_plan, over_total, own, point_plan, reply, reply_item, start, start_item}
 use Rattle.history_model.specs.Plans.{own_plan}
 use Rattle.history_model.proofs.LowerHalves.{from-positive}
 use Rattle.history_model.proofs.UpperHalves.{first-divides, first-positive, multiple-positive}
 use Rattle.simulate.specs.DrawnPlays.{EvenIsPlan, IsOwnPlay, drawn_from, drawn_play, even, node_place, nodes_before, point_place, points_before, rival_plan, shown, step_of}
-use Rattle.simulate.specs.Plays.{CanPlay, CanStand, begin_draws, begun, draws_over, from_weights, gain_of, informed_drawn, member_drawn, move_draws, moved, node_drawn, over_weights, played_at, point_drawn, simulated, start_place, start_point, state_drawn, steps_from}
+use Rattle.simulate.specs.Plays.{CanPlay, CanStand, begin_draws, begun, draws_over, from_weights, gain_of, member_drawn, move_draws, moved, node_drawn, over_weights, played_at, point_drawn, simulated, start_place, start_point, state_drawn, steps_from}
 use Rattle.simulate.specs.Choices.{place_drawn}
 use Rattle.simulate.specs.declared.parts.Played.{Played}
 use Rattle.simulate.specs.declared.parts.Rival.{Rival}
@@ -29,8 +27,8 @@ use Rattle.simulate.specs.declared.parts.Rival.TheVariants.{Points, Uniform}
 use Rattle.simulate.specs.declared.parts.Standing.{Standing}
 use Rattle.simulate.proofs.Begun.{begun-right, from-sum, over-some, state-right}
 use Rattle.simulate.proofs.Leading.{Leads, joined-lead, scaled-lead}
-use Rattle.simulate.proofs.Moments.{informed-point, moved-right, played-right}
-use Rattle.simulate.proofs.OwnPlays.{CanAnswer, IsPlayed, can-answer, drawn-played, goes-on, node-leads, own-leads, point-leads, quotient-some, rival-leads, rival_left, some-product, weight-drawn}
+use Rattle.simulate.proofs.Moments.{moved-right, played-right}
+use Rattle.simulate.proofs.OwnPlays.{CanAnswer, IsPlayed, can-answer, drawn-played, goes-on, node-leads, point-leads, quotient-some, rival_left, some-product, weight-drawn}
 use Rattle.simulate.proofs.Places.{IsItem, drawn-item}
 
 -- ---- the start that is drawn weighs something

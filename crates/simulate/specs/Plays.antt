@@ -1,5 +1,5 @@
 -- The play that a seed gives: what each stage draws, in order, and what the play gains.
-use Rattle.std.specs.Prelude.{ℕ, zero, suc, ℤ, pos, ◌+◌, ◌*◌, ◌^◌, ◌+ℤ◌, ◌*ℤ◌, ◌==◌, ◌≡◌, ◌<◌, ◌≤◌, List, [], ◌∷◌, map, length, slice_index_or, unsigned_abs, Option, Some, None, IfSome, if◌then◌else◌}
+use Rattle.std.specs.Prelude.{ℕ, zero, suc, ℤ, pos, ◌+◌, ◌*◌, ◌^◌, ◌+ℤ◌, ◌*ℤ◌, ◌==◌, ◌<◌, ◌≤◌, List, [], ◌∷◌, map, length, slice_index_or, unsigned_abs, Option, Some, None, IfSome, if◌then◌else◌}
 use Rattle.std.specs.List.{sum}
 use Rattle.rand_pcg.specs.Lcg.{Lcg}
 use Rattle.hsvi_draw.specs.Draws.{after_draws, draw_at, seeded}
@@ -7,7 +7,7 @@ use Rattle.scaled_num.specs.Sums.{below}
 use Rattle.game_model.specs.declared.parts.Landing.{Landing}
 use Rattle.game_model.specs.Branches.{Continuation}
 use Rattle.game_model.specs.Build.{landing_of}
-use Rattle.game_model.specs.Game.{GameData, first_at, numbers, row_at}
+use Rattle.game_model.specs.Game.{GameData, first_at, row_at}
 use Rattle.game_model.specs.Numbers.{Numbers}
 use Rattle.alpha_set.specs.Nodes.{nodes_of, steps_at}
 use Rattle.point_set.specs.Points.{points_of, shares_at}

@@ -1,9 +1,9 @@
-use Rattle.std.proofs.Common.{◌≡◌, ℕ, ◌+◌, ◌*◌, ◌/◌, ◌%◌, ◌<◌, ◌≤◌, max, List, length, get_or, take, take_all, arith, rules, ap, ◌∙◌}
+use Rattle.std.proofs.Common.{◌≡◌, ℕ, ◌*◌, ◌<◌, max, List, length, get_or, take_all, arith, rules, ap, ◌∙◌}
 use Rattle.std.specs.Prelude.{ℤ, pos, fold, unsigned_abs}
 use Rattle.std.specs.Int.{w128}
 use Rattle.std.proofs.Math.Facts.{to_z-of_z}
 use Rattle.std.proofs.lemmas.List.Sums.{fold_more}
-use Rattle.game_model.specs.Game.{GameData, reward_at}
+use Rattle.game_model.specs.Game.{GameData}
 use Rattle.simulate.proofs.Lengths.{has-limits, is-triple}
 use Rattle.simulate.proofs.gains.greatest_reward.Goals as goal
 

@@ -1,4 +1,4 @@
-use Rattle.std.proofs.Common.{◌≡◌, ℕ, suc, ◌+◌, ◌*◌, ◌/◌, ◌^◌, ◌<◌, ◌≤◌, max, arith, refl, ap, sym, subst, ◌∙◌}
+use Rattle.std.proofs.Common.{◌≡◌, suc, ◌+◌, ◌^◌, max, arith, sym}
 use Rattle.std.proofs.lemmas.Nat.{mul-le}
 use Rattle.game_model.specs.Game.{greatest_reward, numbers}
 use Rattle.simulate.proofs.Lengths.{ends-at_most, fits-more, is-each, longest-is, no-more, one-more, power, some-passed}

@@ -1,4 +1,4 @@
-use Rattle.std.proofs.Common.{◌≡◌, ◌*◌, ◌^◌, ◌≤◌}
+use Rattle.std.proofs.Common.{◌≡◌, ◌^◌, ◌≤◌}
 use Rattle.game_model.specs.Game.{numbers}
 use Rattle.simulate.specs.Lengths.{most_gain}
 use Rattle.simulate.proofs.gains.longest.Given as goal

@@ -1,18 +1,17 @@
-use Rattle.std.proofs.Common.{◌≡◌, ℕ, ◌*◌, ◌<◌, ◌≤◌, List, map, length, Some, ap, arith, sym, subst, ◌∙◌}
+use Rattle.std.proofs.Common.{◌≡◌, ℕ, ◌*◌, List, map, length, Some, ap, arith, sym, subst, ◌∙◌}
 use Rattle.std.specs.Prelude.{ℤ, unsigned_abs}
 use Rattle.std.specs.List.{AllByRecursion, sum}
 use Rattle.std.proofs.lemmas.List.{length-map}
 use Rattle.std.proofs.lemmas.List.Sums.{sum-map}
 use Rattle.hsvi_draw.specs.Draws.{after_draws}
 use Rattle.hsvi_draw.proofs.Positions.{after_draws-zero}
-use Rattle.game_model.specs.Game.{GameData, first_at}
 use Rattle.point_set.specs.Points.{points_of}
 use Rattle.controller.specs.Certificates.{CertificateData}
 use Rattle.controller.specs.Sums.{ArePoints}
 use Rattle.simulate.specs.Choices.{IsLight}
 use Rattle.simulate.specs.Plays.{member_drawn, over_weights, point_draws, start_point}
 use Rattle.simulate.specs.declared.parts.Rival.{Rival}
-use Rattle.simulate.proofs.Begun.{over-small, over-some, over-total, starts-light}
+use Rattle.simulate.proofs.Begun.{over-small, over-some, starts-light}
 use Rattle.simulate.proofs.plays.draw_start_point.Goals as goal
 
 pub over_weights-requires-clause-points : goal.over_weights-requires-clause-points

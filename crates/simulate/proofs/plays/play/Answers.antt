@@ -1,9 +1,8 @@
-use Rattle.std.proofs.Common.{◌≡◌, ℕ, ◌^◌, List, length, ap, sym, subst, ◌∙◌}
+use Rattle.std.proofs.Common.{ℕ, ◌^◌, length, ap, sym, subst, ◌∙◌}
 use Rattle.std.specs.Prelude.{pos}
 use Rattle.std.specs.List.{AllByRecursion}
 use Rattle.game_model.specs.Game.{GameData, numbers}
 use Rattle.simulate.specs.Lengths.{IsInGame, IsShortPlay}
-use Rattle.simulate.specs.declared.parts.Played.{Played}
 use Rattle.simulate.proofs.Shapes.{simulated-in_game, simulated-long}
 use Rattle.simulate.proofs.plays.play.Goals as goal
 

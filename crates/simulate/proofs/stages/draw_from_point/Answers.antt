@@ -1,4 +1,4 @@
-use Rattle.std.proofs.Common.{◌≡◌, ℕ, ◌<◌, ◌≤◌, List, get_or, map, length, ap, arith, ◌∙◌}
+use Rattle.std.proofs.Common.{get_or, length, ap, arith, ◌∙◌}
 use Rattle.std.specs.List.{sum}
 use Rattle.std.proofs.lemmas.List.FromFn.{length-map-range_with_len}
 use Rattle.game_model.specs.Game.{GameData}

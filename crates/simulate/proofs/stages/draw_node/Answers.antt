@@ -1,9 +1,8 @@
-use Rattle.std.proofs.Common.{◌≡◌, ℕ, ◌<◌, ◌≤◌, List, map, get_or, length, ap, arith, sym, subst, ◌∙◌}
+use Rattle.std.proofs.Common.{ℕ, ◌<◌, List, map, get_or, length, ap, arith, subst, ◌∙◌}
 use Rattle.std.specs.Prelude.{unsigned_abs}
 use Rattle.std.specs.List.{sum}
 use Rattle.std.proofs.lemmas.List.{length-map}
 use Rattle.std.proofs.lemmas.List.Sums.{sum-map}
-use Rattle.game_model.specs.Game.{GameData}
 use Rattle.game_model.specs.Branches.{Continuation, branch_of}
 use Rattle.game_model.specs.declared.branches.Branch.{Branch as BranchParts}
 use Rattle.alpha_set.specs.Nodes.{no_node, nodes_of, steps_at}

@@ -1,4 +1,4 @@
-use Rattle.std.proofs.Common.{◌≡◌, arith, sym}
+use Rattle.std.proofs.Common.{arith, sym}
 use Rattle.hsvi_draw.proofs.Positions.{after_draws-zero}
 use Rattle.simulate.proofs.stages.draw_point.Goals as goal
 

@@ -1,4 +1,4 @@
-use Rattle.std.proofs.Common.{◌≡◌, ℕ, ◌*◌, ◌<◌, ◌≤◌, List, map, get_or, length, ap, arith, sym, subst, ◌∙◌}
+use Rattle.std.proofs.Common.{◌*◌, List, map, get_or, length, ap, arith, sym, subst, ◌∙◌}
 use Rattle.std.specs.Prelude.{unsigned_abs}
 use Rattle.std.specs.List.{AllByRecursion, sum}
 use Rattle.game_model.specs.Game.{GameData}

@@ -1,5 +1,4 @@
-use Rattle.std.proofs.Common.{◌≡◌, ◌*◌, map, take}
-use Rattle.std.specs.Prelude.{unsigned_abs}
+use Rattle.std.proofs.Common.{◌≡◌, map}
 use Rattle.scaled_num.specs.Sums.{below}
 use Rattle.game_model.specs.Game.{first_at}
 use Rattle.simulate.proofs.weights.first_weights.Given as goal

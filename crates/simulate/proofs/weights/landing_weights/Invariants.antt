@@ -1,5 +1,4 @@
-use Rattle.std.proofs.Common.{◌≡◌, ◌*◌, map, take}
-use Rattle.std.specs.Prelude.{unsigned_abs}
+use Rattle.std.proofs.Common.{◌≡◌, take}
 use Rattle.simulate.specs.Plays.{row_weights}
 use Rattle.simulate.proofs.weights.landing_weights.Given as goal
 

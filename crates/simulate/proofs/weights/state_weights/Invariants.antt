@@ -1,4 +1,4 @@
-use Rattle.std.proofs.Common.{◌≡◌, ◌*◌, map, take}
+use Rattle.std.proofs.Common.{◌≡◌, map}
 use Rattle.std.specs.Prelude.{unsigned_abs}
 use Rattle.scaled_num.specs.Sums.{below}
 use Rattle.belief.specs.Mixes.{mix_at}
