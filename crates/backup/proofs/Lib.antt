@@ -17,6 +17,7 @@ pub mod OneSeeds
 pub mod PointShares
 pub mod SplitWorths
 pub mod Standing
+pub mod GrownSets
 pub mod NewPoints
 pub mod NodeWorths
 pub mod NewNodes
@@ -25,3 +26,4 @@ pub mod LowerRuns
 pub mod OneLowerVisits
 pub mod UpperRuns
 pub mod OneUpperVisits
+pub mod Rooms

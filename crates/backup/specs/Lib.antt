@@ -14,3 +14,4 @@ pub mod LowerLaws
 pub mod UpperVisits
 pub mod UpperRuns
 pub mod UpperLaws
+pub mod Rooms

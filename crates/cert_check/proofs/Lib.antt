@@ -1,5 +1,3 @@
 pub mod Order
 pub mod Fits
-pub mod Remainders
-pub mod Gap
 pub mod Decisions

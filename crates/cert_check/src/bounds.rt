@@ -1,8 +1,8 @@
 //! The last three tests of a certificate: its start, its bounds and its outcome.
 
-ghost use Rattle.cert_check.specs.Quotients.{most_under};
+ghost use Rattle.controller.specs.Quotients.{most_under};
 ghost use Rattle.cert_check.specs.Verdicts.{AllHold, FailsAmong};
-ghost use Rattle.controller.specs.Certificates.{BoundAt, CertificateFits, Holds, IsFraction, IsWithinGap, OutcomeAt, StartAt};
+ghost use Rattle.controller.specs.Certificates.{BoundAt, CertificateFits, Holds, IsFraction, OutcomeAt, StartAt};
 ghost use Rattle.controller.specs.Certificates.{end_places, lower_scale, lower_sum, upper_scale, upper_sum};
 ghost use Rattle.controller.specs.Data.{fraction_data};
 ghost use Rattle.controller.specs.Starts.{weighted};
@@ -12,11 +12,8 @@ ghost use Rattle.scaled_num.specs.Share.{at};
 ghost use Rattle.std.specs.Bool.{IsTrue};
 ghost use Rattle.std.specs.Prelude.{IfSome, IsNone, pos, ◌*ℤ◌, ◌<◌, ◌↔◌, ◌≡◌};
 
-use crate::quotients::{divided, is_at_most_sum};
 use crate::verdicts::Reason;
-use controller::{
-    Certificate, Outcome, bound_scale, lower_bound, start_mass, sum_of_weights, tail, upper_bound,
-};
+use controller::{Certificate, Outcome, lower_bound, start_mass, tail, upper_bound};
 use game_model::{Game, law_game};
 use scaled_num::Fraction;
 
@@ -121,20 +118,7 @@ fn outcome_is(game: &Game, certificate: &Certificate) -> bool
     ensures { IsTrue result ↔ Holds game.now certificate.now OutcomeAt }
 {
     match certificate.outcome {
-        Outcome::Closed => is_closed(game, certificate),
-        Outcome::Trials | Outcome::Full => !is_closed(game, certificate),
+        Outcome::Closed => certificate.is_within_gap(game),
+        Outcome::Trials | Outcome::Full => !certificate.is_within_gap(game),
     }
-}
-
-/// Whether upper less lower is at most the gap, all over the total of the first belief and the units of a reward.
-fn is_closed(game: &Game, certificate: &Certificate) -> bool
-    requires fits { CertificateFits game.now certificate.now }
-    requires bounds { Holds game.now certificate.now BoundAt }
-    ensures { IsTrue result ↔ IsWithinGap certificate.now }
-{
-    let from = sum_of_weights(&certificate.start_nodes);
-    let lower = divided(certificate.lower.num, from);
-    let upper = divided(certificate.upper.num, certificate.multiple);
-    let gap = divided(certificate.gap.num * bound_scale(game), certificate.gap.den);
-    is_at_most_sum(&upper, &lower, &gap)
 }

@@ -4,7 +4,6 @@
 mod bounds;
 mod checker;
 mod members;
-mod quotients;
 mod verdicts;
 
 pub use checker::{check, law_once};

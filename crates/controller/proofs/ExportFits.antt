@@ -49,7 +49,7 @@ short-den x b w low high =
     positive (pos k) n h l = let more : 1 * 1 ≤ k * n = mul-le 1 1 k n (omega (arith, ints)) l in omega (arith, ints)
     positive (negsuc k) n h l = absurd (omega (arith, ints))
 
-lower-short : (g : GameData) (parts : Parts) → IsGame g → PartsFit g parts → IsShort (proved_lower g parts)
+pub lower-short : (g : GameData) (parts : Parts) → IsGame g → PartsFit g parts → IsShort (proved_lower g parts)
 lower-short g parts game fits =
     let few = few-starts (length parts.nodes) (pos most_from) parts.start_nodes fits.most_nodes fits.starts.from in
     let first = first-total-within g game in
@@ -64,7 +64,7 @@ lower-short g parts game fits =
     part : (x y : ℤ) → unsigned_abs x ≤ 2 ^ 16 → unsigned_abs y ≤ 2 ^ 90 → unsigned_abs (x *ℤ y) ≤ 2 ^ 106
     part x y lx ly = rw (unsigned_abs-mul x y) (omega (arith, mul-le (unsigned_abs x) (unsigned_abs y) (2 ^ 16) (2 ^ 90) lx ly))
 
-upper-short : (g : GameData) (parts : Parts) → IsGame g → PartsFit g parts → MakesUpMultiple parts.points parts.start_points parts.multiple g.first g.shape.states → IsShort (proved_upper g parts)
+pub upper-short : (g : GameData) (parts : Parts) → IsGame g → PartsFit g parts → MakesUpMultiple parts.points parts.start_points parts.multiple g.first g.shape.states → IsShort (proved_upper g parts)
 upper-short g parts game fits made =
     let few = few-starts (length parts.points) (pos most_over) parts.start_points fits.most_points fits.starts.over in
     let first = first-total-within g game in
@@ -77,7 +77,7 @@ upper-short g parts game fits made =
       den.1,
     )
 
-tail-short : (g : GameData) → IsGame g → IsShort (proved_tail g)
+pub tail-short : (g : GameData) → IsGame g → IsShort (proved_tail g)
 tail-short g game = let small = span-small g game in (omega arith, omega (arith, ints), omega arith)
 
 -- ---- starts

@@ -14,3 +14,6 @@ pub mod KeptRules
 pub mod CutMembers
 pub mod ExportFits
 pub mod ExportStands
+pub mod Remainders
+pub mod Gap
+pub mod Bounded

@@ -7,3 +7,5 @@ pub mod Export
 pub mod Cuts
 pub mod Sums
 pub mod Reached
+pub mod Quotients
+pub mod Concluded

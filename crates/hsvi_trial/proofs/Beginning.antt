@@ -23,7 +23,8 @@ use Rattle.simplex.specs.Solver.{State}
 use Rattle.hsvi_trial.specs.Courses.{LeadsIn}
 use Rattle.hsvi_trial.specs.Data.{SearchState}
 use Rattle.hsvi_trial.specs.Founds.{HasStart}
-use Rattle.hsvi_trial.specs.Held.{HasRooms, IsHeld}
+use Rattle.backup.specs.Rooms.{HasRooms}
+use Rattle.hsvi_trial.specs.Held.{IsHeld}
 use Rattle.hsvi_trial.specs.Journal.{AreHeld}
 use Rattle.hsvi_trial.specs.Least.{NoneIsAt}
 use Rattle.hsvi_trial.specs.Run.{IsRunSoFar, IsWithinLimits, Task}

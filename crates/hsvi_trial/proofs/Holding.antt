@@ -17,7 +17,8 @@ use Rattle.stage_game.specs.Asked.{BeliefFits, NodesServe, PointsServe}
 use Rattle.hsvi_trial.specs.Courses.{BeginsTrial, GoesOn, HasPlace, IsPlace, course_after, next_after}
 use Rattle.hsvi_trial.specs.Data.{SearchState}
 use Rattle.hsvi_trial.specs.Due.{KeepsNode, KeepsPoint}
-use Rattle.hsvi_trial.specs.Held.{HasRooms, IsHeld, NextFits, VisitFits}
+use Rattle.backup.specs.Rooms.{HasRooms}
+use Rattle.hsvi_trial.specs.Held.{IsHeld, NextFits, VisitFits}
 use Rattle.hsvi_trial.specs.Next.{visits_of}
 use Rattle.hsvi_trial.specs.Run.{IsRunSoFar, Task}
 use Rattle.hsvi_trial.specs.Sets.{AreStanding, Sets}
@@ -27,7 +28,7 @@ use Rattle.hsvi_trial.specs.declared.courses.Next.{Next}
 use Rattle.hsvi_trial.specs.declared.courses.Next.TheVariants.{Back, Down}
 use Rattle.hsvi_trial.specs.declared.courses.Place.{Place}
 use Rattle.hsvi_trial.specs.declared.visits.Visit.{Visit}
-use Rattle.hsvi_trial.proofs.Products.{node-fits-more}
+use Rattle.backup.proofs.GrownSets.{node-fits-more}
 use Rattle.hsvi_trial.proofs.Short.{few-trials, runs-are-short}
 use Rattle.hsvi_trial.proofs.Stepping.{IsVisitAt, inside-back, stepped}
 

@@ -15,7 +15,6 @@ pub mod Standing
 pub mod Beginning
 pub mod Holding
 pub mod Remembering
-pub mod Rooms
 pub mod ReducedLong
 pub mod VisitParts
 pub mod Stepped

@@ -16,15 +16,3 @@ pub small-entries : (g : GameData) (nodes : ℕ) (node : NodeData) → span g �
 small-entries g nodes node small fits =
     each-from (IsWithin (neg_ℤ (pos (span g))) (pos (span g))) (λ x. unsigned_abs x ≤ 2 ^ 70) node.vector (λ x h. small-entry (span g) x small h) fits.entries
 
--- a node that fits among some nodes fits among more
-pub node-fits-more : (g : GameData) (few many : ℕ) (node : NodeData) → few ≤ many → NodeFits g few node → NodeFits g many node
-node-fits-more g few many node l h = record {
-  long = h.long;
-  entries = h.entries;
-  mix = h.mix;
-  next = record {
-    rising = h.next.rising;
-    each = each-from (IsBranch (numbers g) few (pos mix_total)) (IsBranch (numbers g) many (pos mix_total)) node.next (λ b i. record { own = i.own; seen = i.seen; member = omega arith; weight = i.weight }) h.next.each;
-  };
-  sums = h.sums;
-}

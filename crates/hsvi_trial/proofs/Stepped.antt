@@ -25,7 +25,7 @@ use Rattle.hsvi_trial.specs.declared.courses.Next.TheVariants.{Back, Down}
 use Rattle.hsvi_trial.specs.declared.courses.Place.{Place}
 use Rattle.hsvi_trial.specs.declared.visits.Visit.{Visit}
 use Rattle.hsvi_trial.proofs.Holding.{held-next}
-use Rattle.hsvi_trial.proofs.Rooms.{rooms-moved}
+use Rattle.backup.proofs.Rooms.{rooms-moved}
 use Rattle.hsvi_trial.proofs.Standing.{standing-kept}
 use Rattle.hsvi_trial.proofs.VisitParts.{visit-at, visit_of}
 

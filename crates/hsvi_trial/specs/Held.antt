@@ -3,6 +3,7 @@ use Rattle.std.specs.Prelude.{◌+◌}
 use Rattle.std.specs.List.{AllByRecursion}
 use Rattle.game_model.specs.Game.{GameData}
 use Rattle.simplex.specs.Solver.{State}
+use Rattle.backup.specs.Rooms.{HasRooms}
 use Rattle.stage_game.specs.Asked.{BeliefFits, HasRoomForLower, HasRoomForUpper, NodesServe, PointsServe}
 use Rattle.hsvi_trial.specs.Courses.{GoesOn}
 use Rattle.hsvi_trial.specs.Data.{SearchState}
@@ -20,11 +21,6 @@ VisitFits g visit = BeliefFits g visit.belief
 abbrev pub NextFits : GameData → Next → Type 0
 NextFits g (Down belief) = BeliefFits g belief
 NextFits g (Back ahead) = Unit {0}
-
--- a solver has room for the programs of every visit of a game
-pub record HasRooms (g : GameData) (solver : State) : Type 0 where
-  pub lower : HasRoomForLower solver g 16
-  pub upper : HasRoomForUpper solver g (g.shape.states + 8)
 
 -- a search, where it goes on, and a solver with room for the programs of every visit
 pub record IsHeld (state : SearchState) (course : Course) (solver : State) : Type 0 where

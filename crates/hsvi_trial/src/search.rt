@@ -3,7 +3,6 @@
 ghost use Rattle.controller.specs.Certificates.{IsGap};
 ghost use Rattle.controller.specs.Data.{ending_of, fraction_data};
 ghost use Rattle.hsvi_trial.specs.Data.{EndsWith, IsFinished, IsSearch, solved_data, start_data};
-ghost use Rattle.hsvi_trial.specs.Held.{HasRooms};
 ghost use Rattle.hsvi_trial.specs.Laws.{IsRunFront, most_visits};
 ghost use Rattle.hsvi_trial.specs.Run.{IsSolveRun, most_trials};
 ghost use Rattle.hsvi_trial.specs.Sets.{AreSeedSets, AreStanding};
@@ -21,7 +20,7 @@ use crate::starts::{StartOf, are_closed, start_of};
 use crate::visiting::{keep, make};
 use crate::visits::Visit;
 use alpha_set::{MOST_NODES, NodeSet};
-use backup::seed;
+use backup::{reserve_solver, seed};
 use controller::Outcome;
 use game_model::{Game, law_game};
 use point_set::{MOST_POINTS, PointSet};
@@ -262,16 +261,4 @@ impl<'g> Search<'g> {
             journal: self.journal,
         }
     }
-}
-
-/// Makes room in a solver for the programs of every visit of a game.
-fn reserve_solver(solver: &mut Solver, game: &Game) -> Result<(), AllocError>
-    ensures { OnOk result (HasRooms game.now solver.new) }
-{
-    law_game(game);
-    let (states, own, seen) = (game.states(), game.own_actions(), game.observations());
-    let informed = game.informed_actions();
-    let rows = states * informed + own * seen * (states + 8) + 1;
-    let variables = states + own + own * seen * 16;
-    solver.reserve(rows, variables)
 }

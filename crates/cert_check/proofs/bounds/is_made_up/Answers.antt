@@ -8,7 +8,7 @@ use Rattle.std.specs.Int.{w128}
 use Rattle.std.proofs.lemmas.Int.{to_z-of_z}
 use Rattle.scaled_num.proofs.Sums.{each-at}
 use Rattle.game_model.specs.Game.{GameData, IsWithin}
-use Rattle.cert_check.proofs.Gap.{within-wider}
+use Rattle.controller.proofs.Gap.{within-wider}
 use Rattle.cert_check.proofs.bounds.is_made_up.Goals as goal
 
 pub times-requires-clause-multiple : goal.times-requires-clause-multiple

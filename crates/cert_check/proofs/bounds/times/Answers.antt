@@ -1,6 +1,6 @@
 use Rattle.std.proofs.Common.{◌^◌, arith}
 use Rattle.std.proofs.lemmas.Int.{to_z-of_z}
-use Rattle.cert_check.proofs.Gap.{times-fits, within-size}
+use Rattle.controller.proofs.Gap.{times-fits, within-size}
 use Rattle.cert_check.proofs.bounds.times.Goals as goal
 
 pub overflow_mul-result : goal.overflow_mul-result

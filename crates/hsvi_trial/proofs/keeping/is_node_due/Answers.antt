@@ -5,7 +5,7 @@ use Rattle.std.proofs.lemmas.Int.{to_z-of_z}
 use Rattle.alpha_set.specs.Members.{node_data, most_nodes}
 use Rattle.alpha_set.specs.Worth.{IsWorth, worth_at}
 use Rattle.hsvi_trial.proofs.DueTests.{node-due}
-use Rattle.hsvi_trial.proofs.Products.{node-fits-more}
+use Rattle.backup.proofs.GrownSets.{node-fits-more}
 use Rattle.hsvi_trial.proofs.keeping.is_node_due.Goals as goal
 
 pub node_worth-requires-clause-node : goal.node_worth-requires-clause-node

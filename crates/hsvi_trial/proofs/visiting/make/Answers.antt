@@ -1,4 +1,4 @@
-use Rattle.hsvi_trial.proofs.Rooms.{lower-rooms, upper-moved, upper-rooms}
+use Rattle.backup.proofs.Rooms.{lower-rooms, upper-moved, upper-rooms}
 use Rattle.hsvi_trial.proofs.visiting.make.Goals as goal
 
 pub upper_side-requires-clause-room : goal.upper_side-requires-clause-room

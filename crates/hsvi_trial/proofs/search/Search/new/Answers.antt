@@ -10,7 +10,7 @@ invariant_of-result c = (
       c.new-2.result.items c.new-3.result c.reserve_solver.new.solver c.law_game.ensures.accepted (record { trials = c.requires.trials; gap = c.requires.gap })
       (record { first_nodes = c.in_ok-nodes.ensures.nodes; first_points = c.in_ok-nodes.ensures.points })
       c.in_ok-nodes.ensures.nodes_fit c.in_ok-nodes.ensures.points_fit c.in_ok-nodes.ensures.nodes_stand c.in_ok-nodes.ensures.points_stand
-      c.len.ensures.few c.len-2.ensures.few c.in_ok-reserve_solver.ensures c.new-2.ensures.items c.new-3.ensures.trial c.new-3.ensures.first c.new-3.ensures.next,
+      c.len.ensures.few c.len-2.ensures.few c.in_ok-reserve_solver.ensures.room c.new-2.ensures.items c.new-3.ensures.trial c.new-3.ensures.first c.new-3.ensures.next,
   memory-new c.args.game.now c.in_ok-nodes.nodes.members c.in_ok-nodes.points.members c.in_ok-memory.memory c.in_ok-memory.ensures.lower c.in_ok-memory.ensures.upper,
   λ some. absurd (omega (arith, some)),
 )

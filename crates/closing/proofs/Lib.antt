@@ -1,0 +1,4 @@
+pub mod Bounds
+pub mod BetterMembers
+pub mod GoOn
+pub mod Kept

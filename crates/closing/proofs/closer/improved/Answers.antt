@@ -1,0 +1,13 @@
+use Rattle.std.proofs.Common.{rules}
+use Rattle.closing.proofs.Bounds.{better-through}
+use Rattle.closing.proofs.BetterMembers.{better-itself}
+use Rattle.closing.proofs.closer.improved.Goals as goal
+
+pub loop-init : goal.loop-init
+loop-init c = better-itself c.args.game.now c.args.certificate c.requires.stands c.requires.ends
+
+pub loop-preserved : goal.loop-preserved
+loop-preserved c = better-through c.args.game.now c.args.certificate c.loop.best c.round-best.result c.requires.stands.fits c.loop.invariant c.round-best.ensures
+
+pub returns-then-is_closed : goal.returns-then-is_closed
+returns-then-is_closed c = better-through c.args.game.now c.args.certificate c.loop.best c.round-best.result c.requires.stands.fits c.loop.invariant c.round-best.ensures

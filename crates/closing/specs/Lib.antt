@@ -1,0 +1,2 @@
+pub mod Closer
+pub mod Better

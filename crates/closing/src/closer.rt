@@ -1,0 +1,83 @@
+//! A certificate is made better, round by round, until its gap closes.
+
+ghost use Rattle.closing.specs.Closer.{IsBetter, IsCloser, ended_with, most_rounds};
+ghost use Rattle.controller.specs.Certificates.{CertificateStands, Closed, IsGap};
+ghost use Rattle.controller.specs.Concluded.{EndsByGap};
+ghost use Rattle.controller.specs.Data.{fraction_data};
+ghost use Rattle.std.specs.Bool.{IsTrue};
+ghost use Rattle.std.specs.Prelude.{IfOk, ◌↔◌, ◌≡◌, ◌≤◌};
+
+use crate::export::exported;
+use crate::rounds::round;
+use controller::{Certificate, Outcome};
+use game_model::Game;
+use scaled_num::Fraction;
+use std::alloc::{AllocError, Global};
+
+/// The most rounds.
+pub const MOST_ROUNDS: u32 = 10_000;
+
+/// A certificate that is closer than the given one: it stands, its lower bound is not below the given one and its upper
+/// bound not above it. It is Closed exactly where its bounds are within the gap, and else has the outcome Trials. Where
+/// they are within the gap already, or there are no rounds, it is the given one but for gap and outcome. The given one
+/// stands, and rounds and gap are within their limits.
+///
+/// # Errors
+///
+/// Where no memory is to be had.
+pub fn close(
+    alloc: Global,
+    game: &Game,
+    certificate: Certificate,
+    rounds: u32,
+    gap: &Fraction,
+) -> Result<Certificate, AllocError>
+    requires stands { CertificateStands game.now certificate }
+    requires rounds { rounds ≤ most_rounds }
+    requires gap { IsGap (fraction_data gap.now) }
+    ensures closer { IfOk result (IsCloser game.now certificate rounds (fraction_data gap.now)) }
+{
+    let given = with_gap(game, certificate, gap);
+    if rounds == 0 || is_closed(&given) {
+        return Ok(given);
+    }
+    let better = improved(game, given, rounds);
+    exported(alloc, game, &better)
+}
+
+/// Whether the outcome of a certificate is Closed.
+fn is_closed(certificate: &Certificate) -> bool
+    ensures { IsTrue result ↔ (certificate.now.outcome ≡ Closed) }
+{
+    matches!(certificate.outcome, Outcome::Closed)
+}
+
+/// The certificate with another gap, and the outcome that its bounds have under it.
+fn with_gap(game: &Game, certificate: Certificate, gap: &Fraction) -> Certificate
+    requires stands { CertificateStands game.now certificate }
+    requires gap { IsGap (fraction_data gap.now) }
+    ensures same { result ≡ ended_with (fraction_data gap.now) result.outcome certificate }
+    ensures better { IsBetter game.now (ended_with (fraction_data gap.now) certificate.outcome certificate) result }
+{
+    let given = Certificate {
+        gap: *gap,
+        ..certificate
+    };
+    given.concluded(game)
+}
+
+/// What rounds make of a certificate; it ends at the first round whose bounds are within the gap.
+fn improved(game: &Game, certificate: Certificate, rounds: u32) -> Certificate
+    requires stands { CertificateStands game.now certificate }
+    requires ends { EndsByGap certificate }
+    ensures { IsBetter game.now certificate result }
+{
+    let mut best = certificate;
+    for _ in 0..rounds {
+        best = round(game, best);
+        if is_closed(&best) {
+            return best;
+        }
+    }
+    best
+}

@@ -1,0 +1,10 @@
+//! Closing a certificate: its members are made better until its gap closes.
+#![tactic(auto)]
+
+mod closer;
+mod export;
+mod keeps;
+mod rounds;
+mod sweeps;
+
+pub use closer::{MOST_ROUNDS, close};
