@@ -10,7 +10,7 @@ use Rattle.alpha_set.specs.Worth.{AreWeighed}
 use Rattle.alpha_set.proofs.Changing.{raised-stand, replaced-fit as node-replaced-fit, replaced-rise}
 use Rattle.backup.proofs.GrownSets.{long-corner, node-fits-more, nodes-with, points-with}
 use Rattle.belief.specs.Beliefs.{corner_of}
-use Rattle.game_model.specs.Game.{GameData, IsBelief, IsGame, numbers}
+use Rattle.game_model.specs.Game.{GameData, IsBelief, IsGame, IsMass, numbers}
 use Rattle.game_model.proofs.Pay.{each-from}
 use Rattle.point_set.specs.Changes.{IsLower}
 use Rattle.point_set.specs.Corners.{HasCorner, point_at}
@@ -138,20 +138,21 @@ points-serve g points are = record {
   fit = each-from (PointFits g (length points)) (PointFits g most_points) points (λ x h. fits-more g (length points) most_points x are.few h) are.sound.fit;
 }
 
--- ---- what sets are worth at a belief may be asked
-pub nodes-weighed : (g : GameData) (nodes : List NodeData) (belief : List ℤ) → IsGame g → AreNodes g nodes → BeliefFits g belief → AreWeighed nodes belief
-nodes-weighed g nodes belief game are fits = record {
-  game = g;
-  accepted = game;
-  fit = (nodes-serve g nodes are).fit;
-  right = belief-mass g game belief fits.right;
-}
+-- ---- what sets are worth at a mass may be asked
+pub nodes-asked : (g : GameData) (nodes : List NodeData) (mass : List ℤ) → IsGame g → AreNodes g nodes → IsMass g mass → AreWeighed nodes mass
+nodes-asked g nodes mass game are right = record { game = g; accepted = game; fit = (nodes-serve g nodes are).fit; right = right }
 
-pub points-measured : (g : GameData) (points : List PointData) (belief : List ℤ) → IsGame g → ArePoints g points → IsBelief g.shape.states belief → AreMeasured points belief
-points-measured g points belief game are fits = record {
+pub nodes-weighed : (g : GameData) (nodes : List NodeData) (belief : List ℤ) → IsGame g → AreNodes g nodes → BeliefFits g belief → AreWeighed nodes belief
+nodes-weighed g nodes belief game are fits = nodes-asked g nodes belief game are (belief-mass g game belief fits.right)
+
+pub points-asked : (g : GameData) (points : List PointData) (mass : List ℤ) → IsGame g → ArePoints g points → IsMass g mass → AreMeasured points mass
+points-asked g points mass game are right = record {
   game = g;
   accepted = game;
   fit = (points-serve g points are).fit;
   corners = (points-serve g points are).corners;
-  right = belief-mass g game belief fits;
+  right = right;
 }
+
+pub points-measured : (g : GameData) (points : List PointData) (belief : List ℤ) → IsGame g → ArePoints g points → IsBelief g.shape.states belief → AreMeasured points belief
+points-measured g points belief game are fits = points-asked g points belief game are (belief-mass g game belief fits)

@@ -1,2 +1,3 @@
 pub mod Closer
 pub mod Better
+pub mod Seen

@@ -9,9 +9,11 @@ ghost use Rattle.std.specs.Prelude.{IfOk, ◌↔◌, ◌≡◌, ◌≤◌};
 
 use crate::export::exported;
 use crate::rounds::round;
+use backup::reserve_solver;
 use controller::{Certificate, Outcome};
 use game_model::Game;
 use scaled_num::Fraction;
+use simplex::Solver;
 use std::alloc::{AllocError, Global};
 
 /// The most rounds.
@@ -41,7 +43,7 @@ pub fn close(
     if rounds == 0 || is_closed(&given) {
         return Ok(given);
     }
-    let better = improved(game, given, rounds);
+    let better = improved(alloc, game, given, rounds)?;
     exported(alloc, game, &better)
 }
 
@@ -67,17 +69,28 @@ fn with_gap(game: &Game, certificate: Certificate, gap: &Fraction) -> Certificat
 }
 
 /// What rounds make of a certificate; it ends at the first round whose bounds are within the gap.
-fn improved(game: &Game, certificate: Certificate, rounds: u32) -> Certificate
+///
+/// # Errors
+///
+/// Where no memory is to be had.
+fn improved(
+    alloc: Global,
+    game: &Game,
+    certificate: Certificate,
+    rounds: u32,
+) -> Result<Certificate, AllocError>
     requires stands { CertificateStands game.now certificate }
     requires ends { EndsByGap certificate }
-    ensures { IsBetter game.now certificate result }
+    ensures { IfOk result (IsBetter game.now certificate) }
 {
+    let mut solver = Solver::new(alloc);
+    reserve_solver(&mut solver, game)?;
     let mut best = certificate;
     for _ in 0..rounds {
-        best = round(game, best);
+        best = round(alloc, &mut solver, game, best)?;
         if is_closed(&best) {
-            return best;
+            return Ok(best);
         }
     }
-    best
+    Ok(best)
 }

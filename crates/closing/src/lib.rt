@@ -1,10 +1,12 @@
 //! Closing a certificate: its members are made better until its gap closes.
 #![tactic(auto)]
 
+mod branches;
 mod closer;
 mod export;
 mod keeps;
 mod rounds;
 mod sweeps;
+mod visits;
 
 pub use closer::{MOST_ROUNDS, close};

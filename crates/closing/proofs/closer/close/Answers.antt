@@ -6,13 +6,10 @@ use Rattle.controller.specs.Data.{fraction_data}
 use Rattle.closing.proofs.BetterMembers.{closer-by, closer-itself}
 use Rattle.closing.proofs.closer.close.Goals as goal
 
-still : (c : goal.After-drop-better-inside-5) → c.with_gap-given.result.outcome ≡ Closed → ⊥
-still c e = let told : c.is_closed.result ≡ true = c.is_closed.ensures.1 e in absurd cc
-
 pub returns : goal.returns
 returns c = record {
   closer = IfOk-weaker c.exported.result _ _
-      (λ k better. closer-by c.args.game.now c.args.certificate c.args.rounds (fraction_data c.args.gap.now) c.with_gap-given.result c.improved-better.result k c.requires.stands.fits c.requires.gap c.with_gap-given.ensures.same
-      c.with_gap-given.ensures.better c.if-rounds-eq0.false (still c) c.improved-better.ensures better)
+      (λ k better. closer-by c.args.game.now c.args.certificate c.args.rounds (fraction_data c.args.gap.now) c.with_gap-given.result c.in_ok-better.better k c.requires.stands.fits c.requires.gap c.with_gap-given.ensures.same
+      c.with_gap-given.ensures.better c.if-rounds-eq0.false (λ e. let told : c.is_closed.result ≡ true = c.is_closed.ensures.1 e in absurd cc) c.in_ok-better.ensures better)
       c.exported.ensures;
 }

@@ -1,0 +1,201 @@
+//! Where a round may go on: the beliefs that follow a visited one, each with what of the gap hangs on it.
+
+ghost use Rattle.closing.specs.Better.{AreNodes, ArePoints};
+ghost use Rattle.closing.specs.Seen.{IsSeen};
+ghost use Rattle.game_model.specs.Game.{IsMass};
+ghost use Rattle.stage_game.specs.Asked.{BeliefFits};
+ghost use Rattle.stage_game.specs.Fits.{MixesFit};
+ghost use Rattle.std.specs.Prelude.{length, ◌<◌, ◌≡◌};
+
+use crate::visits::Seen;
+use alpha_set::NodeSet;
+use belief::{Belief, Mixes, mass, reduce};
+use game_model::{Game, MIX_TOTAL, MOST_STATES, law_game};
+use point_set::PointSet;
+use scaled_num::sum;
+use std::alloc::{AllocError, Global};
+
+/// The share of the first belief.
+pub const WHOLE: i128 = 1 << 36;
+
+/// A belief that may be visited.
+#[derive(Drop)]
+pub struct Open {
+    pub belief: Belief,
+    /// How much of the first belief's play comes here, discounted, of 2^36.
+    pub share: i128,
+    /// What the bounds are apart here in units, times the share.
+    pub gap: i128,
+}
+
+/// Beliefs that may be visited, and those that were.
+#[derive(Drop)]
+pub struct Frontier {
+    pub open: Vec<Open>,
+    pub visited: Vec<Belief>,
+}
+
+impl Frontier {
+    /// The first belief of a game is open, and none was visited.
+    ///
+    /// # Errors
+    ///
+    /// Where no memory is to be had.
+    pub fn of(alloc: Global, game: &Game) -> Result<Frontier, AllocError> {
+        let first = Open {
+            belief: Belief::first_of(game),
+            share: WHOLE,
+            gap: i128::MAX,
+        };
+        Ok(Frontier {
+            open: vec![in alloc; first]?,
+            visited: Vec::new(alloc),
+        })
+    }
+
+    /// Takes the first open belief of greatest gap.
+    pub fn take(&mut self) -> Option<Open> {
+        let mut best = 0;
+        for i in 1..self.open.len() {
+            if self.open[best].gap < self.open[i].gap {
+                best = i;
+            }
+        }
+        if best < self.open.len() {
+            Some(self.open.swap_remove(best))
+        } else {
+            None
+        }
+    }
+
+    /// Whether a belief was visited.
+    fn has_visited(&self, belief: &Belief) -> bool {
+        self.visited.iter().any(|visited| visited.same(belief))
+    }
+
+    /// Adds an open belief: one that was visited is left out, and to one that is open its share and its gap are added.
+    ///
+    /// # Errors
+    ///
+    /// Where no memory is to be had.
+    fn add(&mut self, next: Open) -> Result<(), AllocError> {
+        if self.has_visited(&next.belief) {
+            return Ok(());
+        }
+        for open in &mut self.open {
+            if open.belief.same(&next.belief) {
+                open.share = open.share.saturating_add(next.share);
+                open.gap = open.gap.saturating_add(next.gap);
+                return Ok(());
+            }
+        }
+        self.open.reserve(1)?;
+        self.open.push_reserved(next);
+        Ok(())
+    }
+
+    /// Adds the beliefs that follow a visited one, where the bounds are apart.
+    ///
+    /// # Errors
+    ///
+    /// Where no memory is to be had.
+    pub fn add_branches(
+        &mut self,
+        game: &Game,
+        from: &Open,
+        seen: &Seen,
+        nodes: &NodeSet,
+        points: &PointSet,
+    ) -> Result<(), AllocError>
+        requires belief { BeliefFits game.now from.now.belief }
+        requires seen { IsSeen game.now seen.now }
+        requires nodes { AreNodes game.now nodes.now.members }
+        requires points { ArePoints game.now points.now.members }
+    {
+        law_game(game);
+        for a in 0..game.own_actions() {
+            let own = seen.own[a as usize];
+            if own > 0 {
+                self.add_after(game, from, seen, own, a, nodes, points)?;
+            }
+        }
+        Ok(())
+    }
+
+    /// Adds the beliefs that follow an own action of this weight.
+    fn add_after(
+        &mut self,
+        game: &Game,
+        from: &Open,
+        seen: &Seen,
+        own: i128,
+        a: u32,
+        nodes: &NodeSet,
+        points: &PointSet,
+    ) -> Result<(), AllocError>
+        requires own { a < game.now.shape.own_actions }
+        requires belief { BeliefFits game.now from.now.belief }
+        requires seen { IsSeen game.now seen.now }
+        requires nodes { AreNodes game.now nodes.now.members }
+        requires points { ArePoints game.now points.now.members }
+    {
+        law_game(game);
+        let mut weights = [0; MOST_STATES];
+        let weights = &mut weights[..game.states() as usize];
+        for o in 0..game.observations() {
+            write_mass(game, &from.belief, &seen.informed, a, o, weights);
+            if let Some(belief) = reduce(weights) {
+                let share = share_of(game, from, own, weights);
+                let gap = gap_of(game, nodes, points, weights, share);
+                if gap > 0 {
+                    self.add(Open { belief, share, gap })?;
+                }
+            }
+        }
+        Ok(())
+    }
+}
+
+/// Writes the mass that follows an own action and an observation.
+fn write_mass(game: &Game, belief: &Belief, informed: &Mixes, a: u32, o: u32, out: &mut [i128])
+    requires belief { BeliefFits game.now belief.now }
+    requires informed { MixesFit game.now informed.now }
+    requires own { a < game.now.shape.own_actions }
+    requires seen { o < game.now.shape.observations }
+    requires places { length out.old ≡ game.now.shape.states }
+    ensures { IsMass game.now out.new }
+{
+    law_game(game);
+    mass(game, belief, informed, a, o, out);
+}
+
+/// The share of a mass that follows an own action of this weight, discounted.
+fn share_of(game: &Game, from: &Open, own: i128, mass: &[i128]) -> i128
+    requires belief { BeliefFits game.now from.now.belief }
+    requires mass { IsMass game.now mass.now }
+{
+    law_game(game);
+    let (over, under) = game.discount();
+    let whole = from.belief.total().saturating_mul(MIX_TOTAL).saturating_mul(game.row_total());
+    let played = from.share.saturating_mul(own) / MIX_TOTAL;
+    let seen = quotient(played.saturating_mul(sum(mass)), whole);
+    quotient(seen.saturating_mul(over), under)
+}
+
+/// A quotient; 0 where the divisor is not positive.
+fn quotient(over: i128, under: i128) -> i128 {
+    if under > 0 { over / under } else { 0 }
+}
+
+/// What the bounds are apart at a mass in units, times a share.
+fn gap_of(game: &Game, nodes: &NodeSet, points: &PointSet, mass: &[i128], share: i128) -> i128
+    requires nodes { AreNodes game.now nodes.now.members }
+    requires points { ArePoints game.now points.now.members }
+    requires mass { IsMass game.now mass.now }
+{
+    law_game(game);
+    let high = points.sawtooth(mass);
+    let (low, _) = nodes.worth(mass);
+    let rate = quotient(high.saturating_sub(low), sum(mass));
+    share.saturating_mul(rate)
+}
