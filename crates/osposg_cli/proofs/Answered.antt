@@ -1,7 +1,7 @@
 -- An input has one answer, whatever the command.
 use Rattle.std.proofs.Common.{◌≡◌, ◌⊎◌, ℕ, ◌<◌, ◌≤◌, [], length, Some, None, Bool, true, false, refl, sym, ◌∙◌, arith, inl, inr}
 use Rattle.osposg_cli.specs.declared.words.Command.{Command}
-use Rattle.osposg_cli.specs.declared.words.Command.TheVariants.{Check, Floor, Gen, Show, Solve}
+use Rattle.osposg_cli.specs.declared.words.Command.TheVariants.{Check, Floor, Gen, Show, Solve, Summary}
 use Rattle.osposg_cli.specs.Answer.{Answers, AnswersAreOne, AsksNoSearch, InputsAreAnswered, IsWork, ReadsInput, SolvedIsChecked, WorkIsDefined}
 use Rattle.osposg_cli.specs.Check.{AnswersCheck}
 use Rattle.osposg_cli.specs.Defined.{AreAnswered, IsAnswered, IsDefined}
@@ -11,6 +11,7 @@ use Rattle.osposg_cli.specs.Inputs.{most_input}
 use Rattle.osposg_cli.specs.Refusals.{words_refused}
 use Rattle.osposg_cli.specs.Show.{AnswersShow}
 use Rattle.osposg_cli.specs.Solve.{MakesCertificate, SolveIsDefined}
+use Rattle.osposg_cli.specs.Summary.{SummaryIsDefined}
 use Rattle.osposg_cli.specs.Words.{gap_data, reads_input}
 use Rattle.osposg_cli.specs.declared.status.Status.{Status}
 use Rattle.osposg_cli.specs.declared.status.Status.TheVariants.{TooLong, WordsRefused}
@@ -19,12 +20,13 @@ use Rattle.game_text.specs.Laws.{AnyRest}
 use Rattle.std.proofs.lemmas.Bool.{cases_order}
 
 -- by command
-pub work-defined : IsDefined AnswersFloor → SolveIsDefined → IsDefined AnswersCheck → IsDefined AnswersShow → GenIsDefined → WorkIsDefined
-work-defined floor solve check show gen Floor = floor
-work-defined floor solve check show gen (Solve trials gap) = solve trials (gap_data gap)
-work-defined floor solve check show gen Check = check
-work-defined floor solve check show gen Show = show
-work-defined floor solve check show gen (Gen number size) = gen number size
+pub work-defined : IsDefined AnswersFloor → SolveIsDefined → IsDefined AnswersCheck → IsDefined AnswersShow → GenIsDefined → SummaryIsDefined → WorkIsDefined
+work-defined floor solve check show gen summary Floor = floor
+work-defined floor solve check show gen summary (Solve trials gap) = solve trials (gap_data gap)
+work-defined floor solve check show gen summary Check = check
+work-defined floor solve check show gen summary Show = show
+work-defined floor solve check show gen summary (Gen number size) = gen number size
+work-defined floor solve check show gen summary (Summary number size trials gap) = summary number size trials (gap_data gap)
 
 pub work-some : AreAnswered AnswersFloor → AreAnswered AnswersCheck → AreAnswered AnswersShow → GenIsAnswered → (command : Command) → AsksNoSearch (Some command) → AreAnswered (IsWork command)
 work-some floor check show gen Floor none = floor
@@ -32,6 +34,7 @@ work-some floor check show gen (Solve trials gap) none = absurd none
 work-some floor check show gen Check none = check
 work-some floor check show gen Show none = show
 work-some floor check show gen (Gen number size) none = λ input. gen number size
+work-some floor check show gen (Summary number size trials gap) none = absurd none
 
 -- whatever the command
 pub too-long : (n : ℕ) → most_input < n → n ≤ most_input → ⊥

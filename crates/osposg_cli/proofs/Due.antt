@@ -8,10 +8,11 @@ use Rattle.hsvi_io.specs.Bytes.{GaveAll, Wrote}
 use Rattle.osposg_cli.specs.declared.status.Status.{Status}
 use Rattle.osposg_cli.specs.declared.status.Status.TheVariants.{Done, No, Open, GameRefused, CertRefused, WordsRefused, ReadFault, WriteFault, OutOfMemory, TooLong}
 use Rattle.osposg_cli.specs.declared.words.Command.{Command}
-use Rattle.osposg_cli.specs.declared.words.Command.TheVariants.{Check, Floor, Gen, Show, Solve}
+use Rattle.osposg_cli.specs.declared.words.Command.TheVariants.{Check, Floor, Gen, Show, Solve, Summary}
 use Rattle.osposg_cli.specs.declared.words.Gap.{Gap}
 use Rattle.osposg_cli.specs.Solve.{AnswersSolve, KeepsSolve, MakesCertificate, SolvePromises}
 use Rattle.osposg_cli.specs.Generate.{GenPromises, KeepsGen}
+use Rattle.osposg_cli.specs.Summary.{AnswersSummary, KeepsSummary, SummaryPromises}
 use Rattle.osposg_cli.specs.Words.{IsWithinLimits, gap_data, reads_input}
 use Rattle.osposg_cli.specs.Answer.{Answers, AsksNoSearch, Ends, InputsAreAnswered, IsDue, IsEarly, IsGiven, IsInput, IsWork, ReadsInput, WorkIsDefined, WroteOne}
 use Rattle.osposg_cli.specs.Defined.{HasText, IsAnswered}
@@ -52,6 +53,7 @@ work_any (Solve trials gap) e input other status text h = absurd cc
 work_any Check e input other status text h = absurd cc
 work_any Show e input other status text h = absurd cc
 work_any (Gen number size) e input other status text h = h
+work_any (Summary number size trials gap) e input other status text h = h
 
 unread_not : (command : Command) → reads_input command ≡ false → ReadsInput (Some command) → ⊥
 unread_not command e reads = let both = sym e ∙ reads in cc
@@ -174,3 +176,16 @@ promised_gen keeps number size named left room old written status text due wrote
     let limits = subst (λ (c : Option Command). IfSome c IsWithinLimits) e within in
     let answer = subst (λ (c : Option Command). Answers c due.0 Done text) e (subst (λ (s : Status). Answers named due.0 s text) done due.2) in
     (text, keeps number size text limits.0 limits.1 (work_done (Gen number size) due.0 text answer), wrote)
+
+-- what the summary of `gen` promises holds of what was written
+summary_work : (number size trials : ℕ) (gap : Gap) (input text : List ℕ) (status : Status) → Answers (Some (Summary number size trials gap)) input status text → MakesCertificate status →
+    AnswersSummary number size trials (gap_data gap) status text
+summary_work number size trials gap input text status (inl (reads, l, s, t)) made = absurd (too_long_not status s made)
+summary_work number size trials gap input text status (inr (few, h)) made = h
+
+pub promised_summary : KeepsSummary → (number size trials : ℕ) (gap : Gap) (named : Option Command) (left : Option (List ℕ)) (room : ℕ) (old written : Option (List ℕ)) (status : Status) (text : List ℕ) →
+    IsDue named left status text → Wrote room old written text → named ≡ Some (Summary number size trials gap) → MakesCertificate status →
+    WroteOne (SummaryPromises number size (gap_data gap) status) room old written
+promised_summary keeps number size trials gap named left room old written status text due wrote e made =
+    let answer = subst (λ (c : Option Command). Answers c due.0 status text) e due.2 in
+    (text, keeps number size trials (gap_data gap) status text (summary_work number size trials gap due.0 text status answer made), wrote)

@@ -10,7 +10,8 @@ pub mod Shared
 pub mod Verdicts
 pub mod Shown
 pub mod DigitValues
-pub mod OptionLists
+pub mod ReadBy
 pub mod Slashes
 pub mod Solved
 pub mod Generated
+pub mod Summarised

@@ -19,19 +19,23 @@ use Rattle.osposg_cli.specs.declared.status.Status.TheVariants.{Done, GameRefuse
 use Rattle.osposg_cli.specs.Check.{AnswersCheck}
 use Rattle.osposg_cli.specs.Defined.{HasText, IsDefined, IsOne, IsTold}
 use Rattle.osposg_cli.specs.Inputs.{TextsAreExact}
-use Rattle.osposg_cli.specs.Solve.{AnswersSolve, IsSolved, KeepsSolve, MakesCertificate, SolveIsDefined, status_of}
+use Rattle.osposg_cli.specs.Solve.{AnswersSolve, IsMade, IsSolved, KeepsSolve, MakesCertificate, SolveIsDefined, status_of}
 use Rattle.osposg_cli.proofs.Shared.{game-once, game-told}
 use Rattle.osposg_cli.proofs.Verdicts.{proved, yes-some}
 
 -- ---- one answer
+-- a game, trials and a tolerance have one certificate
+pub made-once : ExportsAreOne → (trials : ℕ) (gap : FractionData) (g : GameData) → IsGame g → (k m : CertificateData) → IsMade trials gap g k → IsMade trials gap g m → k ≡ m
+made-once exports trials gap g game k m p q =
+    let run : p.solved ≡ q.solved = one-run_for g (visits-are_one g) game (record { game = g; trials = trials; gap = gap }) p.solved q.solved refl p.run q.run in
+    exports g (solved_parts gap q.solved) k m (subst (λ (s : SolvedData). IsExport g (solved_parts gap s) k) run p.exported) q.exported
+
 solved-once : ExportsAreOne → (trials : ℕ) (gap : FractionData) (g : GameData) → IsGame g → IsOne (IsSolved trials gap g)
 solved-once exports trials gap g game status other text more p q =
-    let run : p.solved ≡ q.solved = one-run_for g (visits-are_one g) game (record { game = g; trials = trials; gap = gap }) p.solved q.solved refl p.run q.run in
-    let same : p.certificate ≡ q.certificate =
-    exports g (solved_parts gap q.solved) p.certificate q.certificate (subst (λ (s : SolvedData). IsExport g (solved_parts gap s) p.certificate) run p.exported) q.exported in
+    let same = made-once exports trials gap g game p.certificate q.certificate p.made q.made in
     (p.status_is ∙ ap (λ (k : CertificateData). status_of k.outcome) same ∙ sym q.status_is, p.same ∙ ap certificate_text same ∙ sym q.same)
 
-ending-told : (ending : Ending) → HasText (status_of ending)
+pub ending-told : (ending : Ending) → HasText (status_of ending)
 ending-told Closed = tt
 ending-told Trials = tt
 ending-told Full = tt
@@ -50,7 +54,7 @@ not_refused : (status : Status) → status ≡ GameRefused → MakesCertificate 
 not_refused status refused (inl done) = let e = sym refused ∙ done in cc
 not_refused status refused (inr open_now) = let e = sym refused ∙ open_now in cc
 
-closed_at : (ending : Ending) → (status_of ending ≡ Done) ↔ (ending ≡ Closed)
+pub closed_at : (ending : Ending) → (status_of ending ≡ Done) ↔ (ending ≡ Closed)
 closed_at Closed = (λ e. refl, λ e. refl)
 closed_at Trials = (λ e. absurd cc, λ e. absurd cc)
 closed_at Full = (λ e. absurd cc, λ e. absurd cc)
@@ -61,9 +65,9 @@ solve-keeps low high trials gap input text status (inr (g, is, p)) made = record
   game = g;
   certificate = p.certificate;
   spells_game = is;
-  spells_certificate = (p.stands.fits, p.same);
-  proves = proved low high g p.certificate is.game p.stands;
-  tolerance = ap (λ (k : CertificateData). k.gap) p.exported.same;
+  spells_certificate = (p.made.stands.fits, p.same);
+  proves = proved low high g p.certificate is.game p.made.stands;
+  tolerance = ap (λ (k : CertificateData). k.gap) p.made.exported.same;
   closed = subst (λ (s : Status). (s ≡ Done) ↔ (p.certificate.outcome ≡ Closed)) (sym p.status_is) (closed_at p.certificate.outcome);
 }
 
@@ -72,7 +76,7 @@ pub solve-checked : AnyRest → (trials : ℕ) (gap : FractionData) (input text 
     MakesCertificate status → (yes : List ℕ) × AnswersCheck (input ++ text) Done yes
 solve-checked rest trials gap input text status (inl (line, kind, is, s, t)) made = absurd (not_refused status s made)
 solve-checked rest trials gap input text status (inr (g, is, p)) made =
-    let short = p.stands.fits.short in
+    let short = p.made.stands.fits.short in
     let yes = yes-some p.certificate short.0 short.1 short.2 in
     let front : IsTextOf g (input ++ text) text = rest g input [] text (subst (λ (bytes : List ℕ). IsTextOf g bytes []) (sym (append-nil input)) is) in
-    (yes.0, inr (g, p.certificate, (text, front, (p.stands.fits, p.same)), inl (p.stands, refl, yes.1)))
+    (yes.0, inr (g, p.certificate, (text, front, (p.made.stands.fits, p.same)), inl (p.made.stands, refl, yes.1)))

@@ -12,7 +12,7 @@ use Rattle.history_model.specs.Halves.{LowerHolds, UpperHolds}
 use Rattle.osposg_cli.specs.declared.status.Status.{Status}
 use Rattle.osposg_cli.specs.declared.status.Status.TheVariants.{Done, No}
 use Rattle.osposg_cli.specs.Defined.{HasText, IsAnswered, IsDefined, IsOne, IsTold}
-use Rattle.osposg_cli.specs.Check.{AnswersCheck, IsVerdict, IsYesText, KeepsCheck, Proves, placed, yes_lines}
+use Rattle.osposg_cli.specs.Check.{AnswersCheck, AreBounds, IsVerdict, IsYesText, KeepsCheck, Proves, placed, yes_lines}
 use Rattle.osposg_cli.specs.Refusals.{no_text}
 use Rattle.osposg_cli.proofs.Places.{down-once, up-once}
 use Rattle.osposg_cli.specs.Inputs.{TextsAreExact}
@@ -27,15 +27,22 @@ pub record FailingLaws : Type 0 where
   pub falls : FailingFalls
   pub decided : StandsOrFails
 
+-- the texts of bounds are determined by the bounds
+pub bounds-once : (k : CertificateData) (lower upper tail low high end : List ℕ) → (pos 0 <ℤ k.lower.den) → (pos 0 <ℤ k.upper.den) → (pos 0 <ℤ k.tail.den) →
+    AreBounds k lower upper tail → AreBounds k low high end → (lower ≡ low) × (upper ≡ high) × (tail ≡ end)
+bounds-once k lower upper tail low high end l u t a b = (
+  a.lower_is ∙ ap (placed (fraction_text k.lower.num k.lower.den)) (down-once k.lower.num k.lower.den a.down b.down l a.lower_down b.lower_down) ∙ sym b.lower_is,
+  a.upper_is ∙ ap (placed (fraction_text k.upper.num k.upper.den)) (up-once k.upper.num k.upper.den a.up b.up u a.upper_up b.upper_up) ∙ sym b.upper_is,
+  a.tail_is ∙ ap (placed (fraction_text k.tail.num k.tail.den)) (up-once k.tail.num k.tail.den a.most b.most t a.tail_up b.tail_up) ∙ sym b.tail_is,
+)
+
 yes-once : (k : CertificateData) (text more : List ℕ) → (pos 0 <ℤ k.lower.den) → (pos 0 <ℤ k.upper.den) → (pos 0 <ℤ k.tail.den) → IsYesText k text → IsYesText k more → text ≡ more
 yes-once k text more l u t a b =
-    let low = fraction_text k.lower.num k.lower.den in
-    let high = fraction_text k.upper.num k.upper.den in
-    let end = fraction_text k.tail.num k.tail.den in
+    let same = bounds-once k a.lower a.upper a.tail b.lower b.upper b.tail l u t a.bounds b.bounds in
     a.same
-    ∙ ap (λ (x : List ℕ). yes_lines (placed low x) (placed high a.up) (placed end a.most)) (down-once k.lower.num k.lower.den a.down b.down l a.lower b.lower)
-    ∙ ap (λ (x : List ℕ). yes_lines (placed low b.down) (placed high x) (placed end a.most)) (up-once k.upper.num k.upper.den a.up b.up u a.upper b.upper)
-    ∙ ap (λ (x : List ℕ). yes_lines (placed low b.down) (placed high b.up) (placed end x)) (up-once k.tail.num k.tail.den a.most b.most t a.tail b.tail)
+    ∙ ap (λ (x : List ℕ). yes_lines x a.upper a.tail) same.0
+    ∙ ap (λ (x : List ℕ). yes_lines b.lower x a.tail) same.1
+    ∙ ap (λ (x : List ℕ). yes_lines b.lower b.upper x) same.2
     ∙ sym b.same
 
 verdict-once : FailingLaws → (g : GameData) (k : CertificateData) → IsOne (IsVerdict g k)
@@ -56,7 +63,7 @@ verdict-told : (g : GameData) (k : CertificateData) → IsTold (IsVerdict g k)
 verdict-told g k status text (inl (stands, s, t)) = subst HasText (sym s) tt
 verdict-told g k status text (inr (place, fails, s, t)) = subst HasText (sym s) tt
 
-short-positive : (f : FractionData) → IsShort f → pos 0 <ℤ f.den
+pub short-positive : (f : FractionData) → IsShort f → pos 0 <ℤ f.den
 short-positive f h = positive f.den h.1
   where
     positive : (x : ℤ) → pos 1 ≤ℤ x → pos 0 <ℤ x
@@ -67,7 +74,23 @@ yes-some k l u t =
     let down = down-some k.lower.num k.lower.den (short-positive k.lower l) in
     let up = up-some k.upper.num k.upper.den (short-positive k.upper u) in
     let most = up-some k.tail.num k.tail.den (short-positive k.tail t) in
-    (_, record { down = down.0; up = up.0; most = most.0; lower = down.1; upper = up.1; tail = most.1; same = refl })
+    (_, record {
+      lower = _;
+      upper = _;
+      tail = _;
+      bounds = record {
+        down = down.0;
+        up = up.0;
+        most = most.0;
+        lower_down = down.1;
+        upper_up = up.1;
+        tail_up = most.1;
+        lower_is = refl;
+        upper_is = refl;
+        tail_is = refl;
+      };
+      same = refl;
+    })
 
 verdict-some : StandsOrFails → (g : GameData) (k : CertificateData) → CertificateFits g k → IsAnswered (IsVerdict g k)
 verdict-some decided g k fits = found (decided g k fits)

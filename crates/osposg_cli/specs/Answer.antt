@@ -5,7 +5,7 @@ use Rattle.osposg_cli.specs.declared.status.Status.{Status}
 use Rattle.osposg_cli.specs.declared.status.Status.TheVariants.{Done, No, Open, GameRefused, CertRefused, WordsRefused, ReadFault, WriteFault, OutOfMemory, TooLong}
 use Rattle.osposg_cli.specs.declared.words.Command.{Command}
 use Rattle.osposg_cli.specs.declared.words.Gap.{Gap}
-use Rattle.osposg_cli.specs.declared.words.Command.TheVariants.{Check, Floor, Gen, Show, Solve}
+use Rattle.osposg_cli.specs.declared.words.Command.TheVariants.{Check, Floor, Gen, Show, Solve, Summary}
 use Rattle.osposg_cli.specs.Check.{AnswersCheck}
 use Rattle.osposg_cli.specs.Defined.{AreAnswered, HasText, IsDefined, IsOne}
 use Rattle.osposg_cli.specs.Floor.{AnswersFloor}
@@ -14,6 +14,7 @@ use Rattle.osposg_cli.specs.Inputs.{most_input}
 use Rattle.osposg_cli.specs.Refusals.{words_refused}
 use Rattle.osposg_cli.specs.Show.{AnswersShow}
 use Rattle.osposg_cli.specs.Solve.{AnswersSolve, MakesCertificate}
+use Rattle.osposg_cli.specs.Summary.{AnswersSummary}
 use Rattle.osposg_cli.specs.Words.{gap_data, reads_input}
 
 -- what a command answers to an input that is not too long; `gen` answers the same to every input
@@ -23,6 +24,7 @@ IsWork (Solve trials gap) input status text = AnswersSolve trials (gap_data gap)
 IsWork Check input status text = AnswersCheck input status text
 IsWork Show input status text = AnswersShow input status text
 IsWork (Gen number size) input status text = AnswersGen number size status text
+IsWork (Summary number size trials gap) input status text = AnswersSummary number size trials (gap_data gap) status text
 
 -- each command's answer is defined
 abbrev pub WorkIsDefined : Type 0
@@ -70,6 +72,7 @@ AnswersAreOne = (command : Option Command) (input : List ℕ) → IsOne (Answers
 -- the words ask for no search
 abbrev pub AsksNoSearch : Option Command → Type 0
 AsksNoSearch (Some (Solve trials gap)) = ⊥
+AsksNoSearch (Some (Summary number size trials gap)) = ⊥
 AsksNoSearch command = ⊤
 
 -- Without a search there is an answer to each input. That a search comes to an end is shown by the run that makes it.

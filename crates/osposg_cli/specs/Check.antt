@@ -17,15 +17,25 @@ placed fraction places = fraction ++ (32 ∷ places)
 abbrev pub yes_lines : List ℕ → List ℕ → List ℕ → List ℕ
 yes_lines lower upper tail = codes "yes\nlower " ++ (lower ++ (codes "\nupper " ++ (upper ++ (codes "\ntail " ++ (tail ++ 10 ∷ [])))))
 
--- the bounds of a certificate: the lower one rounded down, the upper one and the tail rounded up
-pub record IsYesText (k : CertificateData) (text : List ℕ) : Type 0 where
+-- the texts of the bounds and of the tail: the lower bound rounded down, the others up
+pub record AreBounds (k : CertificateData) (lower upper tail : List ℕ) : Type 0 where
   pub down : List ℕ
   pub up : List ℕ
   pub most : List ℕ
-  pub lower : IsDownText k.lower.num k.lower.den down
-  pub upper : IsUpText k.upper.num k.upper.den up
-  pub tail : IsUpText k.tail.num k.tail.den most
-  pub same : text ≡ yes_lines (placed (fraction_text k.lower.num k.lower.den) down) (placed (fraction_text k.upper.num k.upper.den) up) (placed (fraction_text k.tail.num k.tail.den) most)
+  pub lower_down : IsDownText k.lower.num k.lower.den down
+  pub upper_up : IsUpText k.upper.num k.upper.den up
+  pub tail_up : IsUpText k.tail.num k.tail.den most
+  pub lower_is : lower ≡ placed (fraction_text k.lower.num k.lower.den) down
+  pub upper_is : upper ≡ placed (fraction_text k.upper.num k.upper.den) up
+  pub tail_is : tail ≡ placed (fraction_text k.tail.num k.tail.den) most
+
+-- the bounds of a certificate
+pub record IsYesText (k : CertificateData) (text : List ℕ) : Type 0 where
+  pub lower : List ℕ
+  pub upper : List ℕ
+  pub tail : List ℕ
+  pub bounds : AreBounds k lower upper tail
+  pub same : text ≡ yes_lines lower upper tail
 
 -- the certificate stands, and its bounds are answered
 abbrev pub IsYes : GameData → CertificateData → Status → List ℕ → Type 0

@@ -10,3 +10,4 @@ pub mod Show
 pub mod Options
 pub mod Solve
 pub mod Generate
+pub mod Summary

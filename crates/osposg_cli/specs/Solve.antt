@@ -20,13 +20,17 @@ status_of Closed = Done
 status_of Trials = Open
 status_of Full = Open
 
--- The answer to a game: the text of a certificate that stands, which is the export of a run of solve.
-pub record IsSolved (trials : ℕ) (gap : FractionData) (g : GameData) (status : Status) (text : List ℕ) : Type 0 where
+-- The certificate that solving a game makes: it is the export of the run of solve, and stands.
+pub record IsMade (trials : ℕ) (gap : FractionData) (g : GameData) (certificate : CertificateData) : Type 0 where
   pub solved : SolvedData
   pub run : IsSolveRun (record { game = g; trials = trials; gap = gap }) solved
-  pub certificate : CertificateData
   pub exported : IsExport g (solved_parts gap solved) certificate
   pub stands : CertificateStands g certificate
+
+-- the answer to a game: the text of the certificate that solving it makes
+pub record IsSolved (trials : ℕ) (gap : FractionData) (g : GameData) (status : Status) (text : List ℕ) : Type 0 where
+  pub certificate : CertificateData
+  pub made : IsMade trials gap g certificate
   pub status_is : status ≡ status_of certificate.outcome
   pub same : text ≡ certificate_text certificate
 

@@ -1,5 +1,5 @@
 -- The words of the command line.
-use Rattle.std.specs.Prelude.{ℕ, pos, ◌==◌, ◌≤◌, ◌^◌, ◌-◌, ◌&&◌, ◌||◌, ⊤, nat_le, nat_lt, Bool, true, false, List, [], ◌∷◌, length, Option, Some, None, String, codes, map, if◌then◌else◌}
+use Rattle.std.specs.Prelude.{ℕ, pos, ◌==◌, ◌≤◌, ◌^◌, ◌-◌, ◌&&◌, ⊤, nat_le, nat_lt, Bool, true, false, List, [], ◌∷◌, length, Option, Some, None, String, codes, map, if◌then◌else◌}
 use Rattle.std.specs.List.{after_first, before_first, list_all}
 use Rattle.std.specs.Option.{option_and_then, option_map}
 use Rattle.std.specs.Str.{all_ascii_digits, bytes_eq}
@@ -8,9 +8,10 @@ use Rattle.std.specs.String.{string_bytes}
 use Rattle.controller.specs.Certificates.{FractionData, IsGap, most_gap, most_gap_under}
 use Rattle.hsvi_trial.specs.Run.{most_trials}
 use Rattle.osposg_cli.specs.declared.words.Command.{Command}
-use Rattle.osposg_cli.specs.declared.words.Command.TheVariants.{Check, Floor, Gen, Show, Solve}
+use Rattle.osposg_cli.specs.declared.words.Command.TheVariants.{Check, Floor, Gen, Show, Solve, Summary}
 use Rattle.osposg_cli.specs.declared.words.Gap.{Gap}
-use Rattle.osposg_cli.specs.Options.{Named, options_of, said, said_once, values_under}
+use Rattle.option_words.specs.Options.{Named, is_among, options_of, values_under}
+use Rattle.osposg_cli.specs.Options.{Values, said, said_once}
 
 -- the tolerance of words, as certificates hold it
 abbrev pub gap_data : Gap → FractionData
@@ -47,31 +48,28 @@ gap_of text =
 
 -- ---- commands
 
--- a command that takes no options
-abbrev pub alone : Command → List Named → Option Command
-alone command [] = Some command
-alone command (option ∷ options) = None
+-- the command of options that have these names alone, by their values
+abbrev pub with_names : List (List ℕ) → (Values → Option Command) → List Named → Option Command
+with_names names command options = if list_all (is_among names) options then command (λ name. values_under name options) else None
 
-abbrev pub is_of_solve : Named → Bool
-is_of_solve option = bytes_eq option.name (codes "--trials") || bytes_eq option.name (codes "--gap")
+-- the same of words
+abbrev pub read_by : List (List ℕ) → (Values → Option Command) → List (List ℕ) → Option Command
+read_by names command words = option_and_then (with_names names command) (options_of words)
 
--- how many trials `solve` may make: 100 where no option says it
-abbrev pub trials_in : List Named → Option ℕ
-trials_in options = said 100 (number_of 0 most_trials) (values_under (codes "--trials") options)
+-- how many trials a search may make: 100 where no option says it
+abbrev pub trials_in : Values → Option ℕ
+trials_in values = said 100 (number_of 0 most_trials) (values (codes "trials"))
 
 -- how near the bounds are to come: 1/100 where no option says it
-abbrev pub gap_in : List Named → Option Gap
-gap_in options = said (gap_over 1 100) gap_of (values_under (codes "--gap") options)
+abbrev pub gap_in : Values → Option Gap
+gap_in values = said (gap_over 1 100) gap_of (values (codes "gap"))
 
 -- `solve` with its options
-unfoldable pub solve_with : List Named → Option Command
-solve_with options =
-    if list_all is_of_solve options
-    then option_and_then (λ trials. option_map (Solve trials) (gap_in options)) (trials_in options)
-    else None
+abbrev pub solve_names : List (List ℕ)
+solve_names = codes "trials" ∷ codes "gap" ∷ []
 
-abbrev pub is_of_gen : Named → Bool
-is_of_gen option = bytes_eq option.name (codes "--number") || bytes_eq option.name (codes "--size")
+unfoldable pub solve_of : Values → Option Command
+solve_of values = option_and_then (λ trials. option_map (Solve trials) (gap_in values)) (trials_in values)
 
 -- the greatest number of a generated game, and its greatest size
 abbrev pub most_number : ℕ
@@ -81,33 +79,39 @@ abbrev pub most_size : ℕ
 most_size = 16
 
 -- the number of the game that `gen` makes, and its size; both must be said
-abbrev pub number_in : List Named → Option ℕ
-number_in options = said_once (number_of 0 most_number) (values_under (codes "--number") options)
+abbrev pub number_in : Values → Option ℕ
+number_in values = said_once (number_of 0 most_number) (values (codes "number"))
 
-abbrev pub size_in : List Named → Option ℕ
-size_in options = said_once (number_of 1 most_size) (values_under (codes "--size") options)
+abbrev pub size_in : Values → Option ℕ
+size_in values = said_once (number_of 1 most_size) (values (codes "size"))
 
 -- `gen` with its options
-unfoldable pub gen_with : List Named → Option Command
-gen_with options =
-    if list_all is_of_gen options
-    then option_and_then (λ number. option_map (Gen number) (size_in options)) (number_in options)
+abbrev pub gen_names : List (List ℕ)
+gen_names = codes "number" ∷ codes "size" ∷ codes "trials" ∷ codes "gap" ∷ []
+
+-- With trials the game is solved; without them it is written, and no tolerance is taken.
+abbrev pub made_of : Values → List (List ℕ) → List (List ℕ) → ℕ → ℕ → Option Command
+made_of values [] [] number size = Some (Gen number size)
+made_of values [] (gap ∷ gaps) number size = None
+made_of values (count ∷ counts) gaps number size = option_and_then (λ trials. option_map (Summary number size trials) (gap_in values)) (trials_in values)
+
+unfoldable pub gen_of : Values → Option Command
+gen_of values = option_and_then (λ number. option_and_then (made_of values (values (codes "trials")) (values (codes "gap")) number) (size_in values)) (number_in values)
+
+-- the command that this word names, with the words after it as its options
+unfoldable pub command_from : List ℕ → List (List ℕ) → Option Command
+command_from word words =
+    if bytes_eq word (codes "floor") then read_by [] (λ values. Some Floor) words
+    else if bytes_eq word (codes "solve") then read_by solve_names solve_of words
+    else if bytes_eq word (codes "check") then read_by [] (λ values. Some Check) words
+    else if bytes_eq word (codes "show") then read_by [] (λ values. Some Show) words
+    else if bytes_eq word (codes "gen") then read_by gen_names gen_of words
     else None
 
--- the command that this word names, with its options
-unfoldable pub command_with : List ℕ → List Named → Option Command
-command_with word options =
-    if bytes_eq word (codes "floor") then alone Floor options
-    else if bytes_eq word (codes "solve") then solve_with options
-    else if bytes_eq word (codes "check") then alone Check options
-    else if bytes_eq word (codes "show") then alone Show options
-    else if bytes_eq word (codes "gen") then gen_with options
-    else None
-
--- the command that the words name: the first word is its own, and the others are its options
+-- the command that the words name
 unfoldable pub command_of : List (List ℕ) → Option Command
 command_of [] = None
-command_of (word ∷ words) = option_and_then (command_with word) (options_of words)
+command_of (word ∷ words) = command_from word words
 
 -- the same of words as the program holds them
 abbrev pub named : {Z : Type 0} → List (String Z) → Option Command
@@ -117,9 +121,11 @@ named words = command_of (map string_bytes words)
 abbrev pub IsWithinLimits : Command → Type 0
 IsWithinLimits (Solve trials gap) = (trials ≤ most_trials) × IsGap (gap_data gap)
 IsWithinLimits (Gen number size) = (1 ≤ size) × (size ≤ most_size)
+IsWithinLimits (Summary number size trials gap) = (1 ≤ size) × (size ≤ most_size) × (trials ≤ most_trials) × IsGap (gap_data gap)
 IsWithinLimits command = ⊤
 
 -- whether a command reads its input
 abbrev pub reads_input : Command → Bool
 reads_input (Gen number size) = false
+reads_input (Summary number size trials gap) = false
 reads_input command = true

@@ -1,6 +1,6 @@
 //! The command `check`: the verdict on a certificate for a game.
 ghost use Rattle.controller.specs.Certificates.{CertificateFits, CertificateStands};
-ghost use Rattle.osposg_cli.specs.Check.{AnswersCheck, IsVerdict, IsYesText, KeepsCheck, placed, yes_lines};
+ghost use Rattle.osposg_cli.specs.Check.{AnswersCheck, AreBounds, IsVerdict, IsYesText, KeepsCheck, placed, yes_lines};
 ghost use Rattle.osposg_cli.specs.Defined.{AreAnswered, IsDefined};
 ghost use Rattle.osposg_cli.specs.Inputs.{most_input};
 ghost use Rattle.scaled_num.specs.Printed.{fraction_text};
@@ -17,6 +17,17 @@ use game_model::{Game, law_game};
 use history_model::{law_controllers, law_splittings};
 use scaled_num::{Fraction, decimals_down, decimals_up, print};
 use std::alloc::{AllocError, Global};
+
+/// The bounds and the tail of a certificate, each as a fraction with its decimal places.
+#[derive(Drop)]
+pub struct BoundTexts {
+    /// Rounded down.
+    pub lower: String,
+    /// Rounded up.
+    pub upper: String,
+    /// Rounded up.
+    pub tail: String,
+}
 
 /// The answer of `check` to a game text with a certificate text at once after it.
 pub fn work(alloc: Global, bytes: &[u8]) -> Result<Answer, AllocError>
@@ -62,6 +73,20 @@ fn yes_text(alloc: Global, game: &Game, certificate: &Certificate) -> Result<Vec
     requires { CertificateStands game.now certificate.now }
     ensures { IfOk result (λ text. IsYesText certificate.now text.items) }
 {
+    let bounds = bound_texts(alloc, game, certificate)?;
+    yes_lines(alloc, &bounds.lower, &bounds.upper, &bounds.tail)
+}
+
+/// The bounds and the tail of a certificate that stands, each as a fraction with its decimal places.
+pub fn bound_texts(
+    alloc: Global,
+    game: &Game,
+    certificate: &Certificate,
+) -> Result<BoundTexts, AllocError>
+    requires { CertificateStands game.now certificate.now }
+    ensures { IfOk result (λ texts.
+        AreBounds certificate.now (string_bytes texts.lower) (string_bytes texts.upper) (string_bytes texts.tail)) }
+{
     law_game(game);
     let down = decimals_down(alloc, &certificate.lower)?;
     let lower = placed(alloc, &certificate.lower, &down)?;
@@ -69,7 +94,7 @@ fn yes_text(alloc: Global, game: &Game, certificate: &Certificate) -> Result<Vec
     let upper = placed(alloc, &certificate.upper, &up)?;
     let most = decimals_up(alloc, &certificate.tail)?;
     let tail = placed(alloc, &certificate.tail, &most)?;
-    yes_lines(alloc, &lower, &upper, &tail)
+    Ok(BoundTexts { lower, upper, tail })
 }
 
 /// A fraction and its decimal places.

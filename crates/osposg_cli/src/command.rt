@@ -11,9 +11,10 @@ ghost use Rattle.osposg_cli.specs.Generate.{GenPromises};
 ghost use Rattle.osposg_cli.specs.Inputs.{most_input};
 ghost use Rattle.osposg_cli.specs.Show.{ShowPromises};
 ghost use Rattle.osposg_cli.specs.Solve.{MakesCertificate, SolvePromises};
+ghost use Rattle.osposg_cli.specs.Summary.{SummaryPromises};
 ghost use Rattle.osposg_cli.specs.Words.{IsWithinLimits, gap_data, named};
 ghost use Rattle.osposg_cli.specs.declared.words.Gap.{Gap};
-ghost use Rattle.osposg_cli.specs.declared.words.Command.TheVariants.{Check, Floor, Gen, Show, Solve};
+ghost use Rattle.osposg_cli.specs.declared.words.Command.TheVariants.{Check, Floor, Gen, Show, Solve, Summary};
 ghost use Rattle.std.specs.Prelude.{IfErr, IfOk, IfSome, IsErrOf, List, OnOk, Some, ℕ, length, ◌≡◌, ◌≤◌};
 
 use crate::answer::Answer;
@@ -21,7 +22,7 @@ use crate::inputs::MOST_INPUT;
 use crate::refusals::words_refused;
 use crate::status::Status;
 use crate::words::{Command, parse};
-use crate::{check, floor, generate, show, solve};
+use crate::{check, floor, generate, show, solve, summary};
 use hsvi_io::{ReadEnd, Sink, Source, read_all, write_all};
 use std::alloc::{AllocError, Global};
 
@@ -73,6 +74,12 @@ pub fn run<I: Source, O: Sink>(
     // writes of itself.
     ensures gen_spells { (number size : ℕ) → result ≡ Status.Done → named words.now ≡ Some (Gen number size) →
         WroteOne (GenPromises number size) (O.room output.old) (O.written output.old) (O.written output.new) }
+    // What the summary of `gen` promises: its bounds are those of a certificate for the game of the number and the size,
+    // which has the tolerance of the words, is closed exactly at Done, and both halves hold of it.
+    ensures gen_proves { (number size trials : ℕ) (gap : Gap) →
+        named words.now ≡ Some (Summary number size trials gap) → MakesCertificate result →
+        WroteOne (SummaryPromises number size (gap_data gap) result)
+        (O.room output.old) (O.written output.old) (O.written output.new) }
     // What the certificate of `solve` promises: it is for the game that was read, has the tolerance of the words, is
     // closed exactly at Done, and both halves hold of it.
     ensures solve_proves { (trials : ℕ) (gap : Gap) → named words.now ≡ Some (Solve trials gap) →
@@ -86,6 +93,7 @@ pub fn run<I: Source, O: Sink>(
     check::law_check();
     show::law_show();
     generate::law_generate();
+    summary::law_summary();
     match answer_to(alloc, words, input) {
         Ok(answer) => match write_all(output, &answer.text) {
             Ok(()) => answer.status,
@@ -109,6 +117,7 @@ pub fn law_answers()
     check::law_check();
     show::law_show();
     generate::law_generate();
+    summary::law_summary();
 }
 
 /// What is to be written, or how the run ends before there is a text.
@@ -151,5 +160,11 @@ fn work(alloc: Global, command: Command, bytes: &[u8]) -> Result<Answer, AllocEr
         Command::Check => check::work(alloc, bytes),
         Command::Show => show::work(alloc, bytes),
         Command::Gen { number, size } => generate::work(alloc, number, size),
+        Command::Summary {
+            number,
+            size,
+            trials,
+            gap,
+        } => summary::work(alloc, number, size, trials, &gap.fraction()),
     }
 }

@@ -10,7 +10,6 @@ mod floor;
 mod gen_tests;
 mod generate;
 mod inputs;
-mod options;
 mod refusals;
 mod show;
 mod solve;
@@ -19,6 +18,7 @@ mod solve_tests;
 #[cfg(test)]
 mod start_tests;
 mod status;
+mod summary;
 #[cfg(test)]
 mod tests;
 #[cfg(test)]

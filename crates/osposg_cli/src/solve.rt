@@ -8,7 +8,7 @@ ghost use Rattle.hsvi_trial.specs.Data.{solved_data, solved_parts};
 ghost use Rattle.hsvi_trial.specs.Run.{most_trials};
 ghost use Rattle.osposg_cli.specs.Defined.{IsDefined};
 ghost use Rattle.osposg_cli.specs.Inputs.{most_input};
-ghost use Rattle.osposg_cli.specs.Solve.{AnswersSolve, IsSolved, KeepsSolve, SolveIsDefined, status_of};
+ghost use Rattle.osposg_cli.specs.Solve.{AnswersSolve, IsMade, IsSolved, KeepsSolve, SolveIsDefined, status_of};
 ghost use Rattle.std.specs.Prelude.{IfOk, length, ◌≡◌, ◌≤◌};
 
 use crate::answer::Answer;
@@ -53,12 +53,26 @@ fn searched(alloc: Global, game: &Game, trials: u32, gap: &Fraction) -> Result<A
     ensures { IfOk result (λ answer.
         IsSolved trials (fraction_data gap.now) game.now answer.status answer.text.items) }
 {
-    let solved = hsvi_trial::solve(alloc, game, trials, gap)?;
-    let certificate = exported(alloc, game, gap, &solved)?;
+    let certificate = certified(alloc, game, trials, gap)?;
     Ok(Answer {
         status: status_of(certificate.outcome),
         text: cert_text::print(alloc, game, &certificate)?,
     })
+}
+
+/// The certificate that a search makes for a game.
+pub fn certified(
+    alloc: Global,
+    game: &Game,
+    trials: u32,
+    gap: &Fraction,
+) -> Result<Certificate, AllocError>
+    requires trials { trials ≤ most_trials }
+    requires gap { IsGap (fraction_data gap.now) }
+    ensures { IfOk result (IsMade trials (fraction_data gap.now) game.now) }
+{
+    let solved = hsvi_trial::solve(alloc, game, trials, gap)?;
+    exported(alloc, game, gap, &solved)
 }
 
 /// The certificate of what a search found.
@@ -89,7 +103,7 @@ fn exported(
 }
 
 /// How the run ends that wrote a certificate of this outcome.
-fn status_of(outcome: Outcome) -> Status
+pub fn status_of(outcome: Outcome) -> Status
     ensures { result ≡ status_of (ending_of outcome) }
 {
     match outcome {

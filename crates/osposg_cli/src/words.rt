@@ -2,14 +2,16 @@
 ghost use Rattle.controller.specs.Certificates.{IsGap};
 ghost use Rattle.controller.specs.Data.{fraction_data};
 ghost use Rattle.hsvi_trial.specs.Run.{most_trials};
-ghost use Rattle.osposg_cli.specs.Options.{named_in};
-ghost use Rattle.osposg_cli.specs.Words.{IsWithinLimits, alone, command_with, digits_of, gap_data, gap_in, gap_of};
-ghost use Rattle.osposg_cli.specs.Words.{gen_with, is_of_gen, is_of_solve, most_size, named, number_in, number_of};
-ghost use Rattle.osposg_cli.specs.Words.{reads_input, size_in, solve_with, trials_in};
-ghost use Rattle.std.specs.Prelude.{IfOk, IfSome, map, ◌≡◌, ◌≤◌};
+ghost use Rattle.option_words.specs.Options.{values_read};
+ghost use Rattle.osposg_cli.specs.Words.{IsWithinLimits, command_from, digits_of, gap_data, gap_in, gap_of, gen_names};
+ghost use Rattle.osposg_cli.specs.Words.{gen_of, most_size, named, number_in, number_of, read_by, reads_input, size_in};
+ghost use Rattle.osposg_cli.specs.Words.{solve_names, solve_of, trials_in};
+ghost use Rattle.std.specs.Prelude.{IfOk, IfSome, Some, [], map, ◌≡◌, ◌≤◌};
+ghost use Rattle.std.specs.String.{string_bytes};
 
-use crate::options::{Given, Value, options, value_under};
+use clap::ArgMatches;
 use controller::{MOST_GAP, MOST_GAP_UNDER};
+use option_words::read;
 use scaled_num::Fraction;
 use std::alloc::{AllocError, Global};
 
@@ -58,6 +60,17 @@ pub enum Command {
         /// 1 to 16.
         size: u32,
     },
+    /// What solving a generated game comes to.
+    Summary {
+        /// Which game of its size.
+        number: u64,
+        /// 1 to 16.
+        size: u32,
+        /// How many trials the search may make.
+        trials: u32,
+        /// How near the bounds are to come.
+        gap: Gap,
+    },
 }
 
 impl Command {
@@ -65,7 +78,7 @@ impl Command {
     pub fn reads_input(self) -> bool
         ensures { result ≡ reads_input self }
     {
-        !matches!(self, Command::Gen { .. })
+        !matches!(self, Command::Gen { .. } | Command::Summary { .. })
     }
 }
 
@@ -80,6 +93,11 @@ const TRIALS: u32 = 100;
 /// The greatest size of a generated game.
 const MOST_SIZE: u128 = 16;
 
+/// The options of `solve` and of `gen`.
+const SOLVE: [&str; 2] = ["trials", "gap"];
+
+const GEN: [&str; 4] = ["number", "size", "trials", "gap"];
+
 /// The command that the words name, without the program's own name; `None` where they name none.
 #[tactic(auto, unfolding(crate::specs::Words::command_of))]
 pub fn parse(alloc: Global, words: &[String]) -> Result<Option<Command>, AllocError>
@@ -87,87 +105,85 @@ pub fn parse(alloc: Global, words: &[String]) -> Result<Option<Command>, AllocEr
     ensures within { IfOk result (λ command. IfSome command IsWithinLimits) }
 {
     match words {
-        [word, rest @ ..] => match options(alloc, rest)? {
-            Some(options) => Ok(command_of_word(word.as_str(), &options)),
-            None => Ok(None),
-        },
+        [word, rest @ ..] => command_from(alloc, word.as_str(), rest),
         [] => Ok(None),
     }
 }
 
-/// The command that a word names with options.
-#[tactic(auto, unfolding(crate::specs::Words::command_with))]
-fn command_of_word(word: &str, options: &[Given<'_>]) -> Option<Command>
-    ensures command { result ≡ command_with word.now (map named_in options.now) }
-    ensures within { IfSome result IsWithinLimits }
+/// The command that a word names, with the words after it as its options.
+#[tactic(auto, unfolding(crate::specs::Words::command_from))]
+fn command_from(alloc: Global, word: &str, words: &[String]) -> Result<Option<Command>, AllocError>
+    ensures command { IfOk result (λ command. command ≡ command_from word.now (map string_bytes words.now)) }
+    ensures within { IfOk result (λ command. IfSome command IsWithinLimits) }
 {
     if word == "floor" {
-        alone(Command::Floor, options)
+        alone(alloc, Command::Floor, words)
     } else if word == "solve" {
-        solve(options)
+        solve(alloc, words)
     } else if word == "check" {
-        alone(Command::Check, options)
+        alone(alloc, Command::Check, words)
     } else if word == "show" {
-        alone(Command::Show, options)
+        alone(alloc, Command::Show, words)
     } else if word == "gen" {
-        generate(options)
+        generate(alloc, words)
     } else {
-        None
+        Ok(None)
     }
 }
 
 /// A command that takes no options.
-fn alone(command: Command, options: &[Given<'_>]) -> Option<Command>
-    ensures { result ≡ alone command (map named_in options.now) }
+fn alone(alloc: Global, command: Command, words: &[String]) -> Result<Option<Command>, AllocError>
+    requires { IsWithinLimits command }
+    ensures command { IfOk result (λ named. named ≡ read_by [] (λ values. Some command) (map string_bytes words.now)) }
+    ensures within { IfOk result (λ named. IfSome named IsWithinLimits) }
 {
-    match options {
-        [] => Some(command),
-        _ => None,
+    match read(alloc, &[], words)? {
+        Some(_) => Ok(Some(command)),
+        None => Ok(None),
     }
 }
 
 /// `solve` with its options.
-#[tactic(auto, unfolding(crate::specs::Words::solve_with))]
-fn solve(options: &[Given<'_>]) -> Option<Command>
-    ensures command { result ≡ solve_with (map named_in options.now) }
+fn solve(alloc: Global, words: &[String]) -> Result<Option<Command>, AllocError>
+    ensures command { IfOk result (λ named. named ≡ read_by solve_names solve_of (map string_bytes words.now)) }
+    ensures within { IfOk result (λ named. IfSome named IsWithinLimits) }
+{
+    match read(alloc, SOLVE.as_slice(), words)? {
+        Some(options) => Ok(solve_of(&options)),
+        None => Ok(None),
+    }
+}
+
+/// `solve` by the values of its options.
+#[tactic(auto, unfolding(crate::specs::Words::solve_of))]
+fn solve_of(options: &ArgMatches<'_>) -> Option<Command>
+    ensures command { result ≡ solve_of (values_read options.now) }
     ensures within { IfSome result IsWithinLimits }
 {
-    if !options.iter().all(is_of_solve) {
-        return None;
-    }
     let trials = trials_in(options)?;
     let gap = gap_in(options)?;
     Some(Command::Solve { trials, gap })
 }
 
-/// Whether an option is one of `solve`.
-fn is_of_solve(option: &Given<'_>) -> bool
-    ensures { result ≡ is_of_solve (named_in option.now) }
-{
-    option.name == "--trials" || option.name == "--gap"
-}
-
-/// How many trials `solve` may make.
-fn trials_in(options: &[Given<'_>]) -> Option<u32>
-    ensures value { result ≡ trials_in (map named_in options.now) }
+/// How many trials a search may make.
+fn trials_in(options: &ArgMatches<'_>) -> Option<u32>
+    ensures value { result ≡ trials_in (values_read options.now) }
     ensures within { IfSome result (λ trials. trials ≤ most_trials) }
 {
-    match value_under(options, "--trials") {
-        Value::Missing => Some(TRIALS),
-        Value::Only(text) => Some(number(text, 0, MOST_TRIALS)? as u32),
-        Value::Repeated => None,
+    match options.get_str("trials") {
+        Some(text) => Some(number(text, 0, MOST_TRIALS)? as u32),
+        None => Some(TRIALS),
     }
 }
 
 /// How near the bounds are to come.
-fn gap_in(options: &[Given<'_>]) -> Option<Gap>
-    ensures value { result ≡ gap_in (map named_in options.now) }
+fn gap_in(options: &ArgMatches<'_>) -> Option<Gap>
+    ensures value { result ≡ gap_in (values_read options.now) }
     ensures within { IfSome result (λ gap. IsGap (gap_data gap)) }
 {
-    match value_under(options, "--gap") {
-        Value::Missing => Some(Gap { num: 1, den: 100 }),
-        Value::Only(text) => gap_of(text),
-        Value::Repeated => None,
+    match options.get_str("gap") {
+        Some(text) => gap_of(text),
+        None => Some(Gap { num: 1, den: 100 }),
     }
 }
 
@@ -187,45 +203,55 @@ fn gap_of(text: &str) -> Option<Gap>
 }
 
 /// `gen` with its options.
-#[tactic(auto, unfolding(crate::specs::Words::gen_with))]
-fn generate(options: &[Given<'_>]) -> Option<Command>
-    ensures command { result ≡ gen_with (map named_in options.now) }
-    ensures within { IfSome result IsWithinLimits }
+fn generate(alloc: Global, words: &[String]) -> Result<Option<Command>, AllocError>
+    ensures command { IfOk result (λ named. named ≡ read_by gen_names gen_of (map string_bytes words.now)) }
+    ensures within { IfOk result (λ named. IfSome named IsWithinLimits) }
 {
-    if !options.iter().all(is_of_gen) {
-        return None;
+    match read(alloc, GEN.as_slice(), words)? {
+        Some(options) => Ok(gen_of(&options)),
+        None => Ok(None),
     }
-    let number = number_in(options)?;
-    let size = size_in(options)?;
-    Some(Command::Gen { number, size })
 }
 
-/// Whether an option is one of `gen`.
-fn is_of_gen(option: &Given<'_>) -> bool
-    ensures { result ≡ is_of_gen (named_in option.now) }
+/// `gen` by the values of its options: with trials the game is solved, and without them no tolerance is taken.
+#[tactic(auto, unfolding(crate::specs::Words::gen_of))]
+fn gen_of(options: &ArgMatches<'_>) -> Option<Command>
+    ensures command { result ≡ gen_of (values_read options.now) }
+    ensures within { IfSome result IsWithinLimits }
 {
-    option.name == "--number" || option.name == "--size"
+    let number = number_in(options)?;
+    let size = size_in(options)?;
+    if options.get_str("trials").is_some() {
+        let trials = trials_in(options)?;
+        let gap = gap_in(options)?;
+        Some(Command::Summary {
+            number,
+            size,
+            trials,
+            gap,
+        })
+    } else if options.get_str("gap").is_some() {
+        None
+    } else {
+        Some(Command::Gen { number, size })
+    }
 }
 
 /// Which game of its size `gen` makes.
-fn number_in(options: &[Given<'_>]) -> Option<u64>
-    ensures { result ≡ number_in (map named_in options.now) }
+fn number_in(options: &ArgMatches<'_>) -> Option<u64>
+    ensures { result ≡ number_in (values_read options.now) }
 {
-    match value_under(options, "--number") {
-        Value::Only(text) => Some(number(text, 0, u64::MAX as u128)? as u64),
-        Value::Missing | Value::Repeated => None,
-    }
+    let text = options.get_str("number")?;
+    Some(number(text, 0, u64::MAX as u128)? as u64)
 }
 
 /// The size of the game that `gen` makes.
-fn size_in(options: &[Given<'_>]) -> Option<u32>
-    ensures value { result ≡ size_in (map named_in options.now) }
+fn size_in(options: &ArgMatches<'_>) -> Option<u32>
+    ensures value { result ≡ size_in (values_read options.now) }
     ensures within { IfSome result (λ size. (1 ≤ size) × (size ≤ most_size)) }
 {
-    match value_under(options, "--size") {
-        Value::Only(text) => Some(number(text, 1, MOST_SIZE)? as u32),
-        Value::Missing | Value::Repeated => None,
-    }
+    let text = options.get_str("size")?;
+    Some(number(text, 1, MOST_SIZE)? as u32)
 }
 
 /// The number that digits spell, from `low` to `high`.

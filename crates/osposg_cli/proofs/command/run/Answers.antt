@@ -1,5 +1,5 @@
 use Rattle.std.proofs.Common.{rules}
-use Rattle.osposg_cli.proofs.Due.{complete_early, complete_whole, ends_whole, promised, promised_gen, promised_solve}
+use Rattle.osposg_cli.proofs.Due.{complete_early, complete_whole, ends_whole, promised, promised_gen, promised_solve, promised_summary}
 use Rattle.osposg_cli.specs.declared.words.Command.TheVariants.{Check, Floor, Show}
 use Rattle.osposg_cli.specs.Check.{CheckPromises}
 use Rattle.osposg_cli.specs.Floor.{FloorPromises}
@@ -34,3 +34,7 @@ returns-in-Ok-write_all-clause-solve_proves g c =
 pub returns-in-Ok-write_all-clause-gen_spells : goal.returns-in-Ok-write_all-clause-gen_spells
 returns-in-Ok-write_all-clause-gen_spells g c =
     λ number size done e. promised_gen c.law_generate.ensures.keeps number size _ _ _ _ _ _ _ c.in-Ok.ensures.due (search rules) c.in-Ok.ensures.within done e
+
+pub returns-in-Ok-write_all-clause-gen_proves : goal.returns-in-Ok-write_all-clause-gen_proves
+returns-in-Ok-write_all-clause-gen_proves g c =
+    λ number size trials gap e made. promised_summary c.law_summary.ensures.keeps number size trials gap _ _ _ _ _ _ _ c.in-Ok.ensures.due (search rules) e made

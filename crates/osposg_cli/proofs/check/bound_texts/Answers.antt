@@ -1,5 +1,5 @@
 use Rattle.osposg_cli.proofs.Bounds.{lower-small, tail-small, upper-small}
-use Rattle.osposg_cli.proofs.check.yes_text.Goals as goal
+use Rattle.osposg_cli.proofs.check.bound_texts.Goals as goal
 
 pub decimals_down-requires : goal.decimals_down-requires
 decimals_down-requires c = rw (← c.certificate.view_is) at (lower-small c.args.game.now c.args.certificate.now c.law_game.ensures.accepted c.requires)
