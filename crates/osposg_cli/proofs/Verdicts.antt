@@ -73,24 +73,26 @@ pub yes-some : (k : CertificateData) → IsShort k.lower → IsShort k.upper →
 yes-some k l u t =
     let down = down-some k.lower.num k.lower.den (short-positive k.lower l) in
     let up = up-some k.upper.num k.upper.den (short-positive k.upper u) in
-    let most = up-some k.tail.num k.tail.den (short-positive k.tail t) in
-    (_, record {
-      lower = _;
-      upper = _;
-      tail = _;
-      bounds = record {
-        down = down.0;
-        up = up.0;
-        most = most.0;
-        lower_down = down.1;
-        upper_up = up.1;
-        tail_up = most.1;
-        lower_is = refl;
-        upper_is = refl;
-        tail_is = refl;
-      };
-      same = refl;
-    })
+    let most = up-some k.tail.num k.tail.den (short-positive k.tail t) in (
+      _,
+      record {
+        lower = _;
+        upper = _;
+        tail = _;
+        bounds = record {
+          down = down.0;
+          up = up.0;
+          most = most.0;
+          lower_down = down.1;
+          upper_up = up.1;
+          tail_up = most.1;
+          lower_is = refl;
+          upper_is = refl;
+          tail_is = refl;
+        };
+        same = refl;
+      },
+    )
 
 verdict-some : StandsOrFails → (g : GameData) (k : CertificateData) → CertificateFits g k → IsAnswered (IsVerdict g k)
 verdict-some decided g k fits = found (decided g k fits)

@@ -10,12 +10,17 @@ use Rattle.osposg_cli.specs.Defined.{IsDefined}
 use Rattle.osposg_cli.specs.Solve.{IsMade, MakesCertificate, status_of}
 use Rattle.osposg_cli.specs.Words.{most_size}
 
--- the lines of a game's number and size, of the outcome, of the bounds and the tail, and of the numbers of nodes and points
-abbrev pub summary_lines : ℕ → ℕ → List ℕ → List ℕ → List ℕ → List ℕ → ℕ → ℕ → List ℕ
-summary_lines number size outcome lower upper tail nodes points =
-    codes "game " ++ (decimal number ++ (codes " size " ++ (decimal size ++ (codes "\noutcome " ++ (outcome
-    ++ (codes "\nlower " ++ (lower ++ (codes "\nupper " ++ (upper ++ (codes "\ntail " ++ (tail
-    ++ (codes "\nsizes " ++ (decimal nodes ++ (32 ∷ decimal points ++ 10 ∷ []))))))))))))))
+-- the lines of a game's number and size, and of an outcome
+abbrev pub heading : ℕ → ℕ → List ℕ → List ℕ
+heading number size outcome = codes "game " ++ (decimal number ++ (codes " size " ++ (decimal size ++ (codes "\noutcome " ++ (outcome ++ 10 ∷ [])))))
+
+-- the lines of the bounds and the tail
+abbrev pub bound_lines : List ℕ → List ℕ → List ℕ → List ℕ
+bound_lines lower upper tail = codes "lower " ++ (lower ++ (codes "\nupper " ++ (upper ++ (codes "\ntail " ++ (tail ++ 10 ∷ [])))))
+
+-- the line of the numbers of nodes and points
+abbrev pub size_line : ℕ → ℕ → List ℕ
+size_line nodes points = codes "sizes " ++ (decimal nodes ++ (32 ∷ (decimal points ++ 10 ∷ [])))
 
 -- the summary of a certificate for the game of a number and a size
 pub record IsSummaryText (number size : ℕ) (k : CertificateData) (text : List ℕ) : Type 0 where
@@ -23,7 +28,7 @@ pub record IsSummaryText (number size : ℕ) (k : CertificateData) (text : List 
   pub upper : List ℕ
   pub tail : List ℕ
   pub bounds : AreBounds k lower upper tail
-  pub same : text ≡ summary_lines number size (outcome_word k.outcome) lower upper tail (length k.nodes) (length k.points)
+  pub same : text ≡ heading number size (outcome_word k.outcome) ++ (bound_lines lower upper tail ++ size_line (length k.nodes) (length k.points))
 
 -- The answer, for a size within its limits: the summary of the certificate that solving the game of the number and the size makes.
 pub record AnswersSummary (number size trials : ℕ) (gap : FractionData) (status : Status) (text : List ℕ) : Type 0 where

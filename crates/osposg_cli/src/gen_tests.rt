@@ -1,13 +1,12 @@
 //! Worked runs of `gen`, and the words that it takes.
-use crate::tests::{answered, text_of, words};
-use crate::words::{Command, parse};
-use crate::{Status, run};
-use hsvi_io::{MemSink, MemSource, SureSink, SureSource};
+use crate::Status;
+use crate::tests::{answered, over, text_of, words};
+use crate::words::{Command, Gap, parse};
 use std::alloc::Global;
 use std::test::Fail;
 
 /// The game of the number 1 and the size 2.
-const SMALL: [&str; 12] = [
+pub const SMALL: [&str; 12] = [
     "osposg 1",
     "size 2 1 1 1",
     "total 100",
@@ -22,14 +21,13 @@ const SMALL: [&str; 12] = [
     "end",
 ];
 
+/// What solving it comes to.
+const SMALL_SOLVED: &str = "game 1 size 2\noutcome closed\nlower -17661990/131072 -134.750290\n\
+    upper -17661864/131072 -134.749328\ntail 9175040/65536 140.000000\nsizes 1 3\n";
+
 /// The status of a run over this input, and what it writes.
 fn written(alloc: Global, command: &[&str], input: &[u8]) -> Result<(Status, Vec<u8>), Fail> {
-    let words = words(alloc, command)?;
-    let mut source = SureSource::new(input);
-    let mut sink = SureSink::new(alloc, 1 << 16)?;
-    let status = run(alloc, &words, &mut source, &mut sink);
-    let text = Vec::from_slice(alloc, sink.written().unwrap_or(b"".as_slice()))?;
-    Ok((status, text))
+    over(alloc, command, input, (4096, &[]), (4096, &[]))
 }
 
 #[test]
@@ -50,15 +48,25 @@ fn gen_writes_its_game_whatever_the_input(rt: HostRuntime) -> Result<(), Fail> {
 fn gen_reads_nothing(rt: HostRuntime) -> Result<(), Fail> {
     let alloc = rt.alloc();
     let small = text_of(alloc, &SMALL)?;
-    let words = words(alloc, &["gen", "--number=1", "--size=2"])?;
-    let mut unreadable = MemSource::new(alloc, b"", 1, &[0])?;
-    let mut sink = MemSink::new(alloc, 1024, 1024, &[])?;
-    assert!(rt; run(alloc, &words, &mut unreadable, &mut sink) == Status::Done);
-    assert!(rt; sink.written() == small.as_bytes());
-    let mut sink = MemSink::new(alloc, 1024, 10, &[1])?;
-    assert!(rt; run(alloc, &words, &mut unreadable, &mut sink) == Status::WriteFault);
-    assert!(rt; sink.written() == b"osposg 1\ns".as_slice());
+    let game = ["gen", "--number=1", "--size=2"].as_slice();
+    let summary = ["gen", "--trials=5", "--number=1", "--size=2", "--gap=1/100"].as_slice();
+    for (command, whole) in [(game, small.as_str()), (summary, SMALL_SOLVED)] {
+        let (status, text) = over(alloc, command, b"", (1, &[0]), (1024, &[]))?;
+        assert!(rt; status == Status::Done);
+        assert!(rt; text.as_slice() == whole.as_bytes());
+    }
     Ok(())
+}
+
+/// Whether the summary of a game that is still open has the bounds of a yes of `check`.
+fn has_bounds(summary: &[u8], yes: &[u8]) -> bool {
+    match (
+        summary.strip_prefix(b"game 1 size 4\noutcome trials\n"),
+        yes.strip_prefix(b"yes\n"),
+    ) {
+        (Some(rest), Some(bounds)) => rest.starts_with(bounds),
+        _ => false,
+    }
 }
 
 #[test]
@@ -73,16 +81,19 @@ fn generated_games_are_shown_solved_and_checked(rt: HostRuntime) -> Result<(), F
     let (status, shown) = written(alloc, &["show"], &four)?;
     assert!(rt; status == Status::Done);
     assert!(rt; shown == four);
-    let (status, certificate) = written(alloc, &["solve", "--trials", "1"], &four)?;
+    let (solved, certificate) = written(alloc, &["solve", "--trials", "1"], &four)?;
     let closed = certificate
         .as_slice()
         .starts_with(b"certificate 1\noutcome closed\n");
-    assert!(rt; status == if closed { Status::Done } else { Status::Open });
+    assert!(rt; solved == if closed { Status::Done } else { Status::Open });
     let mut input = four;
     input.extend_from_slice(&certificate)?;
     let (status, yes) = written(alloc, &["check"], &input)?;
     assert!(rt; status == Status::Done);
     assert!(rt; yes.as_slice().starts_with(b"yes\n"));
+    let (summed, summary) = written(alloc, &["gen", "--number=1", "--size=4", "--trials=1"], b"")?;
+    assert!(rt; summed == solved);
+    assert!(rt; has_bounds(&summary, &yes));
     Ok(())
 }
 
@@ -96,6 +107,33 @@ fn values_of_gen_reach_their_limits(rt: HostRuntime) -> Result<(), Fail> {
     for ([first, second], number, size) in named {
         let words = words(alloc, &["gen", first, second])?;
         assert!(rt; parse(alloc, &words)? == Some(Command::Gen { number, size }));
+    }
+    for (words_of, trials, (num, den)) in [
+        (
+            ["gen", "--number=1", "--size=2", "--trials=0"].as_slice(),
+            0,
+            (1, 100),
+        ),
+        (
+            &[
+                "gen", "--gap", "1/4", "--trials", "10000", "--size", "2", "--number", "1",
+            ],
+            10000,
+            (1, 4),
+        ),
+    ] {
+        let words = words(alloc, words_of)?;
+        let gap = Gap { num, den };
+        let (number, size) = (1, 2);
+        assert!(rt;
+            parse(alloc, &words)?
+                == Some(Command::Summary {
+                    number,
+                    size,
+                    trials,
+                    gap
+                })
+        );
     }
     Ok(())
 }
@@ -116,7 +154,11 @@ fn other_words_of_gen_are_refused(rt: HostRuntime) -> Result<(), Fail> {
         &["gen", "--number=", "--size=2"],
         &["gen", "--number=1", "--number=1", "--size=2"],
         &["gen", "--number=1", "--size=2", "--size=2"],
-        &["gen", "--number=1", "--size=2", "--trials=1"],
+        &["gen", "--number=1", "--size=2", "--trials=10001"],
+        &["gen", "--number=1", "--size=2", "--trials"],
+        &["gen", "--size=2", "--trials=1"],
+        &["gen", "--number=1", "--size=2", "--trials=1", "--gap=1/0"],
+        &["gen", "--number=1", "--size=2", "--trials=1", "--trials=1"],
         &["gen", "--number=1", "--size=2", "--gap=1/2"],
         &["gen", "--number=1", "--size=2", "--seed=1"],
         &["gen", "--number=1", "--size=2", "show"],

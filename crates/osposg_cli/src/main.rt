@@ -5,6 +5,8 @@
 mod answer;
 mod check;
 mod command;
+#[cfg(test)]
+mod end_tests;
 mod floor;
 #[cfg(test)]
 mod gen_tests;

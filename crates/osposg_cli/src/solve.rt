@@ -72,7 +72,8 @@ pub fn certified(
     ensures { IfOk result (IsMade trials (fraction_data gap.now) game.now) }
 {
     let solved = hsvi_trial::solve(alloc, game, trials, gap)?;
-    exported(alloc, game, gap, &solved)
+    let certificate = exported(alloc, game, gap, &solved)?;
+    Ok(certificate)
 }
 
 /// The certificate of what a search found.

@@ -1,15 +1,13 @@
 //! Worked runs of `solve`.
+use crate::Status;
 use crate::start_tests::GUESS_THE_STATE;
 use crate::tests::{
     FIVE_EACH_TIME, PENNIES, PENNIES_CERTIFICATE, THREE_HALVED, answered, changed, joined, text_of,
-    words,
 };
-use crate::{Status, run};
-use hsvi_io::{MemSink, MemSource};
 use std::test::Fail;
 
 /// What `solve` makes of five each time, without a trial.
-const FIVE_CERTIFICATE: [&str; 18] = [
+pub const FIVE_CERTIFICATE: [&str; 18] = [
     "certificate 1",
     "outcome closed",
     "gap 1/100",
@@ -207,23 +205,5 @@ fn a_game_without_its_end_line_or_with_two_is_refused(rt: HostRuntime) -> Result
             answered(alloc, &["solve"], text.as_bytes(), refusal)? == (Status::GameRefused, true)
         );
     }
-    Ok(())
-}
-
-#[test]
-fn a_failing_source_makes_no_certificate_and_a_failing_sink_a_front(
-    rt: HostRuntime,
-) -> Result<(), Fail> {
-    let alloc = rt.alloc();
-    let words = words(alloc, &["solve"])?;
-    let five = text_of(alloc, &FIVE_EACH_TIME)?;
-    let mut source = MemSource::new(alloc, five.as_bytes(), 20, &[1])?;
-    let mut sink = MemSink::new(alloc, 1024, 10, &[])?;
-    assert!(rt; run(alloc, &words, &mut source, &mut sink) == Status::ReadFault);
-    assert!(rt; sink.written().is_empty());
-    let mut source = MemSource::new(alloc, five.as_bytes(), 20, &[])?;
-    let mut sink = MemSink::new(alloc, 1024, 10, &[1])?;
-    assert!(rt; run(alloc, &words, &mut source, &mut sink) == Status::WriteFault);
-    assert!(rt; sink.written() == b"certificat".as_slice());
     Ok(())
 }

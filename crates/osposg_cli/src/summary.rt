@@ -4,13 +4,12 @@ ghost use Rattle.controller.specs.Certificates.{CertificateStands, IsGap};
 ghost use Rattle.controller.specs.Data.{ending_of, fraction_data};
 ghost use Rattle.hsvi_trial.specs.Run.{most_trials};
 ghost use Rattle.osposg_cli.specs.Summary.{AnswersSummary, IsSummaryText, KeepsSummary, SummaryIsDefined};
-ghost use Rattle.osposg_cli.specs.Summary.{summary_lines};
+ghost use Rattle.osposg_cli.specs.Summary.{bound_lines, heading, size_line};
 ghost use Rattle.osposg_cli.specs.Words.{most_size};
 ghost use Rattle.std.specs.Prelude.{IfOk, ◌≡◌, ◌≤◌};
-ghost use Rattle.std.specs.String.{string_bytes};
 
 use crate::answer::Answer;
-use crate::check::{BoundTexts, bound_texts};
+use crate::check::bound_texts;
 use crate::solve::{certified, status_of};
 use controller::{Certificate, Outcome, law_export};
 use game_model::Game;
@@ -64,30 +63,31 @@ fn summary_text(
     ensures { IfOk result (λ text. IsSummaryText number size certificate.now text.items) }
 {
     let bounds = bound_texts(alloc, game, certificate)?;
-    let outcome = outcome_word(certificate.outcome);
-    let nodes = certificate.nodes.len();
-    let points = certificate.points.len();
-    summary_lines(alloc, number, size, outcome, &bounds, nodes, points)
+    let mut text = heading(alloc, number, size, outcome_word(certificate.outcome))?;
+    text.extend_from_slice(&bound_lines(alloc, &bounds.lower, &bounds.upper, &bounds.tail)?)?;
+    text.extend_from_slice(&size_line(alloc, certificate.nodes.len(), certificate.points.len())?)?;
+    Ok(text)
 }
 
-/// The lines of a summary.
-fn summary_lines(
-    alloc: Global,
-    number: u64,
-    size: u32,
-    outcome: &str,
-    bounds: &BoundTexts,
-    nodes: u32,
-    points: u32,
-) -> Result<Vec<u8>, AllocError>
-    ensures { IfOk result (λ text. text.items ≡ summary_lines number size outcome.now (string_bytes bounds.now.lower)
-        (string_bytes bounds.now.upper) (string_bytes bounds.now.tail) nodes points) }
+/// The lines of a game's number and size, and of an outcome.
+fn heading(alloc: Global, number: u64, size: u32, outcome: &str) -> Result<Vec<u8>, AllocError>
+    ensures { IfOk result (λ text. text.items ≡ heading number size outcome.now) }
 {
-    let (lower, upper, tail) = (bounds.lower.as_str(), bounds.upper.as_str(), bounds.tail.as_str());
-    Ok(format!(in alloc;
-        "game {number} size {size}\noutcome {outcome}\nlower {lower}\nupper {upper}\ntail {tail}\nsizes {nodes} {points}\n"
-    )?
-    .into_bytes())
+    Ok(format!(in alloc; "game {number} size {size}\noutcome {outcome}\n")?.into_bytes())
+}
+
+/// The lines of the bounds and the tail.
+fn bound_lines(alloc: Global, lower: &str, upper: &str, tail: &str) -> Result<Vec<u8>, AllocError>
+    ensures { IfOk result (λ text. text.items ≡ bound_lines lower.now upper.now tail.now) }
+{
+    Ok(format!(in alloc; "lower {lower}\nupper {upper}\ntail {tail}\n")?.into_bytes())
+}
+
+/// The line of the numbers of nodes and points.
+fn size_line(alloc: Global, nodes: u32, points: u32) -> Result<Vec<u8>, AllocError>
+    ensures { IfOk result (λ text. text.items ≡ size_line nodes points) }
+{
+    Ok(format!(in alloc; "sizes {nodes} {points}\n")?.into_bytes())
 }
 
 /// The word for how a run ended.

@@ -29,7 +29,7 @@ pub const THREE_HALVED: [&str; 8] = [
 ];
 
 /// A certificate that closes its gap.
-const THREE_CERTIFICATE: [&str; 18] = [
+pub const THREE_CERTIFICATE: [&str; 18] = [
     "certificate 1",
     "outcome closed",
     "gap 0/1",
@@ -107,11 +107,11 @@ const PENNIES_YES: &str =
     "yes\nlower 0/65536 0.000000\nupper 0/65536 0.000000\ntail 65536/65536 1.000000\n";
 
 /// What `check` writes of the certificate of three halved.
-const THREE_YES: &str =
+pub const THREE_YES: &str =
     "yes\nlower 393216/65536 6.000000\nupper 393216/65536 6.000000\ntail 393216/65536 6.000000\n";
 
 /// The bound that `floor` writes for five each time.
-const FIVE_BOUND: &str = "action 0\nlower 327680/65536\ntail 327680/65536\n";
+pub const FIVE_BOUND: &str = "action 0\nlower 327680/65536\ntail 327680/65536\n";
 
 /// A text of these lines.
 pub fn text_of(alloc: Global, lines: &[&str]) -> Result<String, Fail> {
@@ -161,6 +161,22 @@ pub fn answered(
     let mut sink = SureSink::new(alloc, 1024)?;
     let status = run(alloc, &words, &mut source, &mut sink);
     Ok((status, sink.written() == Some(text.as_bytes())))
+}
+
+/// The status of a run and what it writes, over a source that gives and a sink that takes at most so many bytes a call;
+/// the calls of these numbers fail.
+pub fn over(
+    alloc: Global,
+    command: &[&str],
+    input: &[u8],
+    (given, read_fails): (usize, &[u32]),
+    (taken, write_fails): (usize, &[u32]),
+) -> Result<(Status, Vec<u8>), Fail> {
+    let words = words(alloc, command)?;
+    let mut source = MemSource::new(alloc, input, given, read_fails)?;
+    let mut sink = MemSink::new(alloc, 1 << 16, taken, write_fails)?;
+    let status = run(alloc, &words, &mut source, &mut sink);
+    Ok((status, Vec::from_slice(alloc, sink.written())?))
 }
 
 #[test]
@@ -241,14 +257,12 @@ fn other_words_are_refused_and_nothing_is_read(rt: HostRuntime) -> Result<(), Fa
         &["Floor"],
         &["floor", "floor"],
         &["solve", "--"],
+        &["solve", "--trials", "5", "--"],
         &["solve", "--trials", "10001"],
     ] {
-        let words = words(alloc, command)?;
-        let mut unreadable = MemSource::new(alloc, b"", 1, &[0])?;
-        let mut sink = MemSink::new(alloc, 1024, 1024, &[])?;
-        let status = run(alloc, &words, &mut unreadable, &mut sink);
+        let (status, text) = over(alloc, command, b"", (1, &[0]), (1024, &[]))?;
         assert!(rt; status == Status::WordsRefused);
-        assert!(rt; sink.written() == b"words refused\n".as_slice());
+        assert!(rt; text.as_slice() == b"words refused\n".as_slice());
     }
     Ok(())
 }
@@ -312,22 +326,6 @@ fn an_input_above_the_limit_is_too_long(rt: HostRuntime) -> Result<(), Fail> {
     let alloc = rt.alloc();
     let input = vec![in alloc; b'\n'; (1 << 26) + 1]?;
     assert!(rt; answered(alloc, &["floor"], &input, "")? == (Status::TooLong, true));
-    Ok(())
-}
-
-#[test]
-fn a_failing_source_writes_nothing_and_a_failing_sink_a_front(rt: HostRuntime) -> Result<(), Fail> {
-    let alloc = rt.alloc();
-    let words = words(alloc, &["floor"])?;
-    let five = text_of(alloc, &FIVE_EACH_TIME)?;
-    let mut source = MemSource::new(alloc, five.as_bytes(), 20, &[1])?;
-    let mut sink = MemSink::new(alloc, 1024, 10, &[])?;
-    assert!(rt; run(alloc, &words, &mut source, &mut sink) == Status::ReadFault);
-    assert!(rt; sink.written().is_empty());
-    let mut source = MemSource::new(alloc, five.as_bytes(), 20, &[])?;
-    let mut sink = MemSink::new(alloc, 1024, 10, &[1])?;
-    assert!(rt; run(alloc, &words, &mut source, &mut sink) == Status::WriteFault);
-    assert!(rt; sink.written() == b"action 0\nl".as_slice());
     Ok(())
 }
 
