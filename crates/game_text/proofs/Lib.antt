@@ -1,5 +1,9 @@
+pub mod Parted
+pub mod NumberWords
 pub mod Widths
 pub mod Reading
+pub mod PlainLines
+pub mod Standing
 pub mod RowSteps
 pub mod OneReading
 pub mod Guards

@@ -1,13 +1,14 @@
 -- The game that entries say, as a builder takes them.
 use Rattle.std.specs.Prelude.{◌≡◌, ℕ, List, [], ◌∷◌, map, reverse, ℤ}
-use Rattle.text_words.specs.Lines.{Line, lines_of, after_lines}
+use Rattle.text_words.specs.Lines.{Line}
 use Rattle.game_model.specs.declared.parts.Landing.{Landing}
 use Rattle.game_model.specs.Game.{GameData, IsRewardInRange, IsNarrow, IsLanding}
 use Rattle.game_model.specs.Build.{HasRoom, HasWeightLeft, IsBegun, IsLastRowFull, IsMultiple, IsNext, last_row, with_landing, with_step}
 use Rattle.game_text.specs.declared.progress.RowEntry.{RowEntry}
 use Rattle.game_text.specs.declared.progress.RowEntry.TheVariants as row
 use Rattle.game_text.specs.Entries.{Entry, Step, Out, End, shape_in}
-use Rattle.game_text.specs.Steps.{Say, ReadsAll}
+use Rattle.game_text.specs.Steps.{Say}
+use Rattle.game_text.specs.Places.{IsAt}
 
 -- the rewards and the rows that entries say; entries, rewards, rows and landings have the latest first
 abbrev pub rewards_in : List Entry → List ℤ
@@ -52,6 +53,6 @@ Takes g (row.Step s a c reward) = HasRoom g × IsRewardInRange reward × IsLastR
 Takes g (row.Out landing) = IsBegun g × IsLanding g.shape landing × IsNext (last_row g) landing × HasWeightLeft g landing.weight
 Takes g row.End = Unit {0}
 
--- so many lines of the text are accepted, and these bytes are left
-abbrev pub EndsAfter : List ℕ → ℕ → List ℕ → Type 0
-EndsAfter text count rest = (entries : List Entry) × ReadsAll (lines_of text) count entries (lines_of rest) × (after_lines count text ≡ rest)
+-- the bytes that are left stand behind the `end` line, and so many lines stand before them
+abbrev pub EndsAt : List ℕ → ℕ → List ℕ → Type 0
+EndsAt text before rest = (count : ℕ) × (entries : List Entry) × IsAt text count (End ∷ entries) before rest

@@ -1,4 +1,5 @@
 pub mod Fault
+pub mod Plain
 pub mod Text
 pub mod Forms
 pub mod Entries
@@ -6,6 +7,7 @@ pub mod Due
 pub mod Rules
 pub mod Reading
 pub mod Steps
+pub mod Places
 pub mod Laws
 pub mod Progress
 pub mod Header

@@ -1,7 +1,10 @@
 -- The texts of a game, spelled out from its numbers.
-use Rattle.std.specs.Prelude.{ℕ, ◌*ℤ◌, ◌≤◌, ◌≡◌, List, [], ◌∷◌, ◌++◌, map, flat_map, ℤ, pos, codes}
+use Rattle.std.specs.Prelude.{ℕ, ◌*ℤ◌, ◌≤◌, ◌≡◌, List, [], ◌∷◌, ◌++◌, length, map, flat_map, ℤ, pos, codes}
 use Rattle.scaled_num.specs.Sums.{below}
+use Rattle.text_words.specs.Lines.{Line}
+use Rattle.text_words.specs.Lines.{lines_of as plain_lines}
 use Rattle.text_words.specs.Spelled.{line_of}
+use Rattle.game_text.specs.Plain.{IsWordless, after_lines, completed, lines_of}
 use Rattle.game_model.specs.declared.parts.Landing.{Landing}
 use Rattle.game_model.specs.Game.{GameData, IsGame, IsBelief, reward_at, row_at}
 
@@ -52,6 +55,13 @@ canonical_text g = text_of g g.first
 abbrev pub scaled : ℕ → List ℤ → List ℤ
 scaled times weights = map (λ b. pos times *ℤ b) weights
 
+-- The text has the lines of this plain text, its numbers in whatever spelling, and then comes the rest: what stands behind
+-- the last of those lines.
+pub record Spells (plain text rest : List ℕ) : Type 0 where
+  pub after : List Line
+  pub lines : lines_of text ≡ plain_lines plain ++ after
+  pub rest : after_lines (length (plain_lines plain)) text ≡ rest
+
 -- The bytes are a text of this game, whose `first` line has a multiple of its first belief that keeps the limits,
 -- and then the rest.
 pub record IsTextOf (g : GameData) (text rest : List ℕ) : Type 0 where
@@ -59,4 +69,8 @@ pub record IsTextOf (g : GameData) (text rest : List ℕ) : Type 0 where
   pub times : ℕ
   pub some : 1 ≤ times
   pub first : IsBelief g.shape.states (scaled times g.first)
-  pub same : text ≡ text_of g (scaled times g.first) ++ rest
+  pub same : Spells (text_of g (scaled times g.first)) text rest
+
+-- The whole of the bytes is a text of this game: behind its `end` line, which may lack its line end, no line has words.
+abbrev pub IsWholeTextOf : GameData → List ℕ → Type 0
+IsWholeTextOf g text = (rest : List ℕ) × IsTextOf g (completed text) rest × IsWordless rest

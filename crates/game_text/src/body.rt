@@ -1,37 +1,35 @@
 //! Reads the rows and the `end` line.
-ghost use Rattle.std.specs.Prelude.{◌≡◌, ◌+◌, ◌^◌, ◌<◌, ◌≤◌, ℕ, List, length, IfOk, IfErr, ◌==◌};
-ghost use Rattle.std.specs.List.{after_first};
-ghost use Rattle.text_words.specs.Lines.{Line, after_lines, lines_of};
+ghost use Rattle.std.specs.Prelude.{◌≡◌, ◌+◌, ◌^◌, ◌<◌, ◌≤◌, ℕ, List, length, IfOk, IfErr};
 ghost use Rattle.game_text.specs.Built.{IsEnded};
-ghost use Rattle.text_words.specs.Fault.{Gives};
-ghost use Rattle.game_text.specs.Progress.{IsProgress, IsOpen, FitsProgress, entry_in, progress_of, progress_after, row_at, said};
-ghost use Rattle.game_text.specs.Steps.{Reads};
-ghost use Rattle.game_text.specs.Steps.{IsFaultOf};
+ghost use Rattle.game_text.specs.Places.{IsAt, Moves};
+ghost use Rattle.game_text.specs.Progress.{IsProgress, IsOpen, FitsProgress, entry_in, progress_of, progress_after, said};
+ghost use Rattle.game_text.specs.Steps.{IsStopped};
 ghost use Rattle.game_text.specs.Entries.{Entry};
 
-use crate::fault::{Kind, TextFault, numbered};
+use crate::fault::{TextFault, numbered};
+use crate::lines::{line_feeds, next_words};
 use crate::progress::{Latest, Progress, RowEntry};
 use crate::rows::row_line;
 use std::alloc::Global;
-use text_words::{LineFault, first_words};
 
-/// What the next line says where the reading is this far, and what follows it.
-#[tactic(auto, unfolding(crate::specs::Progress::row_at))]
+/// What the next line says where the reading is this far, what follows it, and its number.
 fn next_row<'a>(
     alloc: Global,
     progress: &Progress,
     text: &'a [u8],
-) -> Result<(RowEntry, &'a [u8]), LineFault<Kind>>
-    requires { IsProgress progress.now }
-    ensures gives { Gives (λ found. (entry_in found.0, lines_of found.1.now)) result
-        (row_at progress.now (lines_of text.now)) }
+    before: u32,
+) -> Result<(RowEntry, &'a [u8], u32), TextFault>
+    requires progress { IsProgress progress.now }
+    requires few { before + length text.now < 2 ^ 31 }
+    ensures moves { (whole : List ℕ) (count : ℕ) (entries : List Entry) → IsAt whole count entries before text.now →
+        progress.now ≡ progress_of entries → IsOpen entries → Moves entry_in whole count entries result }
     ensures fits { IfOk result (λ found. FitsProgress progress.now found.0) }
-    ensures after { IfOk result (λ found. found.1.now ≡ after_first (λ b. b == 10) text.now) }
-    ensures shorter { IfOk result (λ found. length found.1.now < length text.now) }
+    ensures shorter { IfOk result (λ found. found.2 + length found.1.now ≤ before + length text.now) }
+    ensures later { IfOk result (λ found. before < found.2) }
 {
-    let (words, rest) = first_words(alloc, Kind::Missing, text)?;
-    let entry = row_line(alloc, progress, &words)?;
-    Ok((entry, rest))
+    let (words, rest, line) = next_words(alloc, text, before)?;
+    let entry = numbered(row_line(alloc, progress, &words), line)?;
+    Ok((entry, rest, line))
 }
 
 /// How far the reading is after a line.
@@ -58,44 +56,38 @@ fn progress_after(progress: Progress, entry: RowEntry) -> Progress
     }
 }
 
-/// How many line feeds there are: at least as many as lines are read.
-fn line_feeds(text: &[u8]) -> usize {
-    text.iter().filter(|b| **b == b'\n').count()
-}
-
-/// Reads the rows and the `end` line, from behind a header of five lines.
+/// Reads the rows and the `end` line, from behind a header of five lines that have words. Answers the entries, what
+/// follows, and how many lines stand before that.
 pub fn read_rows(
     alloc: Global,
     start: Progress,
     text: &[u8],
-) -> Result<(Vec<RowEntry>, &[u8]), TextFault>
+    before: u32,
+) -> Result<(Vec<RowEntry>, &[u8], u32), TextFault>
     requires progress { IsProgress start }
     requires begun { start.begun ≡ 0 }
-    requires size { length text.now < 2 ^ 31 }
-    ensures after { IfOk result (λ found. found.1.now ≡ after_lines (length found.0.items) text.now) }
-    ensures few { IfOk result (λ found. length found.0.items ≤ length text.now) }
-    ensures ended { (before : List Entry) → IfOk result (λ found. IsEnded (said found.0.items before)) }
-    ensures found { (lines : List Line) (before : List Entry)
-        → Reads lines 5 before (lines_of text.now) → start ≡ progress_of before → IsOpen before
-        → IfOk result (λ found.
-        Reads lines (5 + length found.0.items) (said found.0.items before) (lines_of found.1.now)) }
-    ensures refused { (lines : List Line) (before : List Entry)
-        → Reads lines 5 before (lines_of text.now) → start ≡ progress_of before → IsOpen before
-        → IfErr result (IsFaultOf lines) }
+    requires few { before + length text.now < 2 ^ 31 }
+    ensures ended { (entries : List Entry) → IfOk result (λ found. IsEnded (said found.0.items entries)) }
+    ensures found { (whole : List ℕ) (entries : List Entry) → IsAt whole 5 entries before text.now →
+        start ≡ progress_of entries → IsOpen entries → IfOk result (λ found.
+        IsAt whole (5 + length found.0.items) (said found.0.items entries) found.2 found.1.now) }
+    ensures shorter { IfOk result (λ found. found.2 + length found.1.now ≤ before + length text.now) }
+    ensures refused { (whole : List ℕ) (entries : List Entry) → IsAt whole 5 entries before text.now →
+        start ≡ progress_of entries → IsOpen entries → IfErr result (IsStopped whole) }
 {
     let Ok(mut entries) = Vec::with_capacity(alloc, line_feeds(text)) else {
         return Err(TextFault::OutOfMemory);
     };
     let mut progress = start;
     let mut rest = text;
-    let mut line: u32 = 5;
+    let mut lines = before;
     loop {
-        let (entry, after) = numbered(next_row(alloc, &progress, rest), line + 1)?;
+        let (entry, after, line) = next_row(alloc, &progress, rest, lines)?;
         entries.push(entry)?;
         rest = after;
-        line += 1;
+        lines = line;
         if let RowEntry::End = entry {
-            return Ok((entries, rest));
+            return Ok((entries, rest, lines));
         }
         progress = progress_after(progress, entry);
     }

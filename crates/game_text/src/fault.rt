@@ -72,6 +72,14 @@ pub enum TextFault {
     OutOfMemory,
 }
 
+impl From<AllocError> for TextFault {
+    ghost from_gives = { λ _ fault. fault ≡ texts.OutOfMemory };
+
+    fn from(_: AllocError) -> Self {
+        TextFault::OutOfMemory
+    }
+}
+
 impl<T: Drop> From<AllocFailed<T>> for TextFault {
     ghost from_gives = { λ _ fault. fault ≡ texts.OutOfMemory };
 

@@ -1,6 +1,8 @@
 //! The words and numbers of one line, and their limits.
-ghost use Rattle.std.specs.Prelude.{◌≡◌, ◌≤◌, length, IfOk, All, pos, ◌≤ℤ◌};
+ghost use Rattle.std.specs.Prelude.{◌≡◌, ◌≤◌, false, codes, length, IfOk, All, pos, ◌≤ℤ◌};
+ghost use Rattle.std.specs.Str.{bytes_eq};
 ghost use Rattle.text_words.specs.Lines.{line_in};
+ghost use Rattle.game_text.specs.Plain.{plain_line};
 ghost use Rattle.game_model.specs.Limits.{most_belief, most_states};
 ghost use Rattle.scaled_num.specs.Sums.{sum_of};
 ghost use Rattle.game_text.specs.Limits.{IsDiscount};
@@ -8,28 +10,35 @@ ghost use Rattle.text_words.specs.Fault.{Gives};
 ghost use Rattle.game_text.specs.Forms.{within, version_line, discount_within, total_within, numbers_after};
 
 use crate::fault::Kind;
+use crate::numbers::numbers;
 use game_model::{MOST_BELIEF, MOST_DISCOUNT};
 use scaled_num::sum;
 use std::alloc::Global;
 use text_words::{LineFault, is_within};
 
-/// The numbers of a line that has this first word and this many numbers.
+/// The numbers of a line that has this first word and this many numbers. The word is not `osposg`, whose line has
+/// one spelling.
 pub fn numbers_after(
     alloc: Global,
     words: &[&[u8]],
     name: &[u8],
     count: usize,
 ) -> Result<Vec<i128>, LineFault<Kind>>
-    ensures gives { Gives (λ numbers. numbers.items) result (numbers_after name.now count (line_in words.now)) }
+    requires { bytes_eq name.now (codes "osposg") ≡ false }
+    ensures gives { Gives (λ numbers. numbers.items) result
+        (numbers_after name.now count (plain_line (line_in words.now))) }
     ensures count { IfOk result (λ numbers. length numbers.items ≡ count) }
 {
-    text_words::numbers_after(alloc, Kind::Shape, Kind::Number, words, name, count)
+    match words {
+        [first, rest @ ..] if *first == name && rest.len() == count => numbers(alloc, rest),
+        _ => Err(LineFault::Refused(Kind::Shape)),
+    }
 }
 
 /// The line is `osposg 1`.
-#[tactic(auto, unfolding(crate::specs::Forms::version_line))]
+#[tactic(auto, unfolding(crate::specs::Forms::version_line, crate::specs::Plain::plain_line))]
 pub fn version(words: &[&[u8]]) -> Result<(), Kind>
-    ensures { result ≡ version_line (line_in words.now) }
+    ensures { result ≡ version_line (plain_line (line_in words.now)) }
 {
     match words {
         [name, number] if *name == b"osposg".as_slice() && *number == b"1".as_slice() => Ok(()),

@@ -1,5 +1,5 @@
 //! Laws that make acceptance and refusal exact.
-ghost use Rattle.game_text.specs.Laws.{AnyRest, Decided, DecidedAlone, LinesAreTexts, RefusedOnce, TextsAreGames, TextsAreNotRefused, TextsAreRead, WholeTextsAreNotRefused};
+ghost use Rattle.game_text.specs.Laws.{AnyRest, Decided, DecidedAlone, FrontRefusedOnce, LinesAreTexts, RefusedOnce, TextsAreGames, TextsAreNotRefused, TextsAreRead, WholeTextsAreGames, WholeTextsAreNotRefused};
 ghost use Rattle.game_text.specs.Laws.{CanonicalTexts};
 
 /// A law: the canonical text of a game is a text of it.
@@ -10,6 +10,11 @@ pub fn law_canonical()
 /// A law: a text is of one game, and ends at one offset.
 pub fn law_games()
     ensures { TextsAreGames }
+{}
+
+/// A law: the whole of bytes is a text of one game.
+pub fn law_whole_games()
+    ensures { WholeTextsAreGames }
 {}
 
 /// A law: lines that are accepted are a text of a game.
@@ -25,6 +30,11 @@ pub fn law_read()
 /// A law: a text is refused at one line, with one kind.
 pub fn law_refused_once()
     ensures { RefusedOnce }
+{}
+
+/// A law: so is a text at the front of bytes.
+pub fn law_front_refused_once()
+    ensures { FrontRefusedOnce }
 {}
 
 /// A law: what begins with a text of a game is not refused.

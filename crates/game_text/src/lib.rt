@@ -7,6 +7,8 @@ mod fault;
 mod forms;
 mod header;
 mod laws;
+mod lines;
+mod numbers;
 mod printing;
 mod progress;
 mod rows;
@@ -14,8 +16,9 @@ mod texts;
 
 pub use fault::{Kind, TextFault};
 pub use laws::{
-    law_accepted, law_any_rest, law_canonical, law_decided, law_decided_alone, law_games,
-    law_not_refused, law_read, law_refused_once, law_whole_not_refused,
+    law_accepted, law_any_rest, law_canonical, law_decided, law_decided_alone,
+    law_front_refused_once, law_games, law_not_refused, law_read, law_refused_once,
+    law_whole_games, law_whole_not_refused,
 };
 pub use printing::print;
 pub use texts::{read, read_alone};

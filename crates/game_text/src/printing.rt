@@ -1,6 +1,6 @@
 //! The canonical text of a game, printed.
-ghost use Rattle.game_text.specs.Text.{IsTextOf, canonical_text, header_text, informed_text, landing_line, row_text, rows_text, size_text, state_text, step_line};
-ghost use Rattle.std.specs.Prelude.{IfOk, OnOk, [], flat_map, ◌++◌, ◌<◌, ◌≡◌};
+ghost use Rattle.game_text.specs.Text.{IsWholeTextOf, canonical_text, header_text, informed_text, landing_line, row_text, rows_text, size_text, state_text, step_line};
+ghost use Rattle.std.specs.Prelude.{IfOk, OnOk, flat_map, ◌++◌, ◌<◌, ◌≡◌};
 ghost use Rattle.std.specs.String.{string_bytes};
 
 use game_model::{Game, Landing, law_game};
@@ -116,14 +116,14 @@ fn size_line(text: &mut String, game: &Game) -> Result<(), AllocError>
 }
 
 /// The canonical text of a game: its first belief is coprime, and no line could be left out. `read_alone` answers the
-/// game again: by `law_read` no line of a text of a game is refused, and by `law_games` it is a text of no other game.
+/// game again: by `law_whole_not_refused` no line of it is refused, and by `law_whole_games` it is a text of no other game.
 ///
 /// # Errors
 ///
 /// Where no memory is to be had.
 pub fn print(alloc: Global, game: &Game) -> Result<Vec<u8>, AllocError>
     ensures canonical { IfOk result (λ text. text.items ≡ canonical_text game.now) }
-    ensures text { IfOk result (λ text. IsTextOf game.now text.items []) }
+    ensures text { IfOk result (λ text. IsWholeTextOf game.now text.items) }
 {
     law_game(game);
     let mut text = String::new(alloc);

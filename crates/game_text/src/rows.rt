@@ -1,9 +1,11 @@
 //! The lines of the rows.
-ghost use Rattle.std.specs.Prelude.{◌≡◌, ◌≤◌, ◌<◌, ◌^◌, length, IfOk, OnOk, pos, ◌≤ℤ◌, ◌+ℤ◌, ◌*ℤ◌, neg_ℤ, max, unsigned_abs};
+ghost use Rattle.std.specs.Prelude.{◌≡◌, codes, ◌≤◌, ◌<◌, ◌^◌, length, IfOk, OnOk, pos, ◌≤ℤ◌, ◌+ℤ◌, ◌*ℤ◌, neg_ℤ, max, unsigned_abs};
 ghost use Rattle.text_words.specs.Lines.{line_in};
+ghost use Rattle.game_text.specs.Plain.{plain_line};
 ghost use Rattle.game_model.specs.Limits.{most_reward};
 ghost use Rattle.game_model.specs.Game.{IsShape, triples};
 ghost use Rattle.text_words.specs.Fault.{Gives};
+ghost use Rattle.text_words.specs.Forms.{begins};
 ghost use Rattle.game_text.specs.Forms.{next_triple, full_row, narrow_reward, later_pair, fits_row};
 ghost use Rattle.game_text.specs.Entries.{step_said, out_said, end_said, row_end_said};
 ghost use Rattle.game_text.specs.Progress.{IsProgress, FitsProgress, entry_in, pair_of, row_said};
@@ -102,7 +104,7 @@ fn step_line(
 ) -> Result<RowEntry, LineFault<Kind>>
     requires { IsProgress progress.now }
     ensures gives { Gives entry_in result
-        (step_said progress.now.shape progress.now.begun progress.now.sum (line_in words.now)) }
+        (step_said progress.now.shape progress.now.begun progress.now.sum (plain_line (line_in words.now))) }
     ensures fits { IfOk result (FitsProgress progress.now) }
 {
     let shape = progress.shape;
@@ -130,7 +132,7 @@ fn out_line(
 ) -> Result<RowEntry, LineFault<Kind>>
     requires { IsProgress progress.now }
     ensures gives { Gives entry_in result
-        (out_said progress.now.shape progress.now.sum (pair_of progress.now.latest) (line_in words.now)) }
+        (out_said progress.now.shape progress.now.sum (pair_of progress.now.latest) (plain_line (line_in words.now))) }
     ensures fits { IfOk result (FitsProgress progress.now) }
 {
     let numbers = numbers_after(alloc, words, b"out", 3)?;
@@ -149,7 +151,7 @@ fn end_line(
     words: &[&[u8]],
 ) -> Result<RowEntry, LineFault<Kind>>
     ensures gives { Gives entry_in result
-        (end_said progress.now.shape progress.now.begun progress.now.sum (line_in words.now)) }
+        (end_said progress.now.shape progress.now.begun progress.now.sum (plain_line (line_in words.now))) }
     ensures fits { IfOk result (FitsProgress progress.now) }
 {
     numbers_after(alloc, words, b"end", 0)?;
@@ -165,6 +167,13 @@ fn triples(shape: Shape) -> u32
     shape.states * shape.own_actions * shape.informed_actions
 }
 
+/// Whether the line begins with `out`.
+fn begins_out(words: &[&[u8]]) -> bool
+    ensures { result ≡ begins (codes "out") (plain_line (line_in words.now)) }
+{
+    begins(b"out", words)
+}
+
 /// What a line of the rows says where the reading is this far.
 #[tactic(auto, unfolding(crate::specs::Progress::row_said, crate::specs::Entries::row_end_said))]
 pub fn row_line(
@@ -173,13 +182,13 @@ pub fn row_line(
     words: &[&[u8]],
 ) -> Result<RowEntry, LineFault<Kind>>
     requires { IsProgress progress.now }
-    ensures gives { Gives entry_in result (row_said progress.now (line_in words.now)) }
+    ensures gives { Gives entry_in result (row_said progress.now (plain_line (line_in words.now))) }
     ensures fits { IfOk result (FitsProgress progress.now) }
 {
     match progress.latest {
         Latest::Start => step_line(alloc, progress, words),
         Latest::Row => out_line(alloc, progress, words),
-        Latest::Pair(_, _) if begins(b"out", words) => out_line(alloc, progress, words),
+        Latest::Pair(_, _) if begins_out(words) => out_line(alloc, progress, words),
         Latest::Pair(_, _) if progress.begun == triples(progress.shape) => end_line(
             alloc, progress, words,
         ),
