@@ -1,19 +1,21 @@
 -- Accepted lines are texts of games, and texts of games are accepted.
-use Rattle.std.proofs.Common.{◌≡◌, ℕ, ◌≤◌, List, [], ◌∷◌, ◌++◌, reverse, length, map, ℤ, pos, refl, sym, ap, subst, ◌∙◌, arith, inl, inr}
+use Rattle.std.proofs.Common.{◌≡◌, ℕ, ◌≤◌, List, [], ◌∷◌, ◌++◌, reverse, length, map, ℤ, pos, refl, sym, ap, subst, ◌∙◌, arith, append-nil, inl, inr, ◌+◌}
 use Rattle.game_model.specs.Limits.{most_reward, most_row_total}
 use Rattle.std.specs.Prelude.{neg_ℤ}
 use Rattle.std.specs.List.{AllByRecursion}
-use Rattle.std.proofs.lemmas.List.{append_cancel_right, length-reverse}
-use Rattle.text_words.specs.Lines.{Line, lines_of, after_lines}
+use Rattle.std.proofs.lemmas.List.{length-reverse}
+use Rattle.text_words.specs.Lines.{Line}
+use Rattle.text_words.specs.Lines.{lines_of as plain_lines}
+use Rattle.game_text.specs.Plain.{IsWordless, after_lines, completed, lines_of, number_in}
 use Rattle.text_words.proofs.Numerals.{Small, small_within, numbers_written}
-use Rattle.text_words.proofs.Whole.{IsWord, IsWritten, lines_text, lines_of-front, lines_of-lines, after_lines-lines}
+use Rattle.text_words.proofs.Whole.{IsWord, IsWritten, lines_text, lines_of-lines}
 use Rattle.game_model.specs.declared.parts.Shape.{Shape}
 use Rattle.game_model.specs.declared.parts.Landing.{Landing}
 use Rattle.game_model.specs.Game.{GameData, IsGame, IsBelief}
 use Rattle.game_text.specs.declared.fault.Kind.{Kind}
-use Rattle.game_text.specs.Text.{scaled, text_of, IsTextOf}
+use Rattle.game_text.specs.Text.{IsTextOf, IsWholeTextOf, Spells, scaled, text_of}
 use Rattle.game_text.specs.Entries.{Entry, Version, Size, Total, Discount, First, Step, Out, End, shape_in}
-use Rattle.game_text.specs.Steps.{Reads, ReadsAll, Halts, HaltsAlone, GoesPast}
+use Rattle.game_text.specs.Steps.{GoesPast, Reads, ReadsAll, Stops, StopsWhole}
 use Rattle.game_text.specs.Built.{rewards_in, onto_last, rows_in}
 use Rattle.game_text.proofs.Said.{words_in, name_in, numbers_in, small_discount, small_weights, small_weight}
 use Rattle.game_text.specs.Forms.{state_at, own_at, informed_at}
@@ -24,50 +26,9 @@ use Rattle.game_text.proofs.Coprime.{Parts, parts, scaled_once}
 use Rattle.game_text.proofs.OneReading.{accepted_once, not_both, refused_once}
 use Rattle.text_words.proofs.Texts.{each_reverse}
 
--- from lines to a game
+-- the words of entries
 
--- the bytes of lines that are accepted
-pub accepted_bytes : (text : List ℕ) (count : ℕ) (entries : List Entry) (rest : List Line) → Reads (lines_of text) count entries rest
-    → (text ≡ back_text entries ++ after_lines count text) × Run entries × (lines_of (after_lines count text) ≡ rest)
-accepted_bytes text count entries rest reads =
-    let before = reads.0 in
-    let p = say_run before entries reads.3 in
-    let q = lines_of-front text (reverse before) rest reads.1 in
-    let counted : length (reverse before) ≡ count = length-reverse before ∙ reads.2 in
-    let words : lines_text (reverse before) ≡ back_text entries = ap (λ (ls : List Line). lines_text (reverse ls)) p.0 ∙ ap lines_text (sym (map_reverse words_in entries)) ∙ lines_back entries in (
-      q.0 ∙ ap (λ (l : List ℕ). l ++ after_lines (length (reverse before)) text) words ∙ ap (λ (n : ℕ). back_text entries ++ after_lines n text) counted,
-      p.1,
-      ap (λ (n : ℕ). lines_of (after_lines n text)) (sym counted) ∙ q.1,
-    )
-
--- the game of a finished chain, with these coprime weights
-pub finished_text : (entries : List Entry) (f : Finished entries) (p : Parts f.front.shape.states f.front.first) (rest : List ℕ)
-    → IsTextOf (game_from f.front.shape p.kept f.front.rs f.front.rows) (back_text (End ∷ entries) ++ rest) rest
-finished_text entries f p rest =
-    let shape = f.front.shape in
-    let g = game_from shape p.kept f.front.rs f.front.rows in
-    record {
-      game = game_is shape p.kept f.front.rs f.front.rows f.front.limits p.belief p.coprime f.whole;
-      times = p.times;
-      some = p.some;
-      first = subst (IsBelief shape.states) (sym p.same) f.front.belief;
-      same = ap (λ (l : List ℕ). l ++ rest)
-          (ap (λ (es : List Entry). back_text (End ∷ es)) f.front.same
-          ∙ whole_bytes shape p.kept f.front.first f.front.rs f.front.rows f.front.good f.whole.count
-          ∙ ap (text_of g) (sym p.same));
-    }
-
-pub lines_are_texts : (text : List ℕ) (count : ℕ) (entries : List Entry) (rest : List Line) → ReadsAll (lines_of text) count entries rest → (g : GameData) × IsTextOf g text (after_lines count text)
-lines_are_texts text count entries rest reads =
-    let b = accepted_bytes text count (End ∷ entries) rest reads in
-    let f = finished entries b.1 in
-    let p = parts f.front.shape.states f.front.first f.front.belief in
-    let g = game_from f.front.shape p.kept f.front.rs f.front.rows in
-    (g, subst (λ (t : List ℕ). IsTextOf g t (after_lines count text)) (sym b.0) (finished_text entries f p (after_lines count text)))
-
--- from a game to lines
-
-may_small : (before : List Entry) (e : Entry) → Run before → May before e → AllByRecursion Small (numbers_in e)
+pub may_small : (before : List Entry) (e : Entry) → Run before → May before e → AllByRecursion Small (numbers_in e)
 may_small before Version run may = (omega arith, tt)
 may_small before (Size s a c o) run may =
     let f = may.2 in (omega (arith, f.states), (omega (arith, f.own_actions), (omega (arith, f.informed_actions), (omega (arith, f.observations), tt))))
@@ -98,16 +59,58 @@ words_written : (entries : List Entry) → Run entries → AllByRecursion IsWrit
 words_written [] run = tt
 words_written (e ∷ entries) run = ((name_written e, numbers_written (numbers_in e) (may_small entries e run.1 run.0)), words_written entries run.1)
 
-pub run_reads : (entries : List Entry) (rest : List ℕ) → Run entries
-    → Reads (lines_of (back_text entries ++ rest)) (length (map words_in entries)) entries (lines_of rest) × (after_lines (length (map words_in entries)) (back_text entries ++ rest) ≡ rest)
-run_reads entries rest run =
+-- from lines to a game
+
+-- the lines of the bytes that entries spell
+no_lines : plain_lines [] ≡ []
+unfolding plain_lines
+no_lines = refl
+
+pub plain_back : (entries : List Entry) → Run entries → plain_lines (back_text entries) ≡ reverse (map words_in entries)
+plain_back entries run =
     let lines = reverse (map words_in entries) in
     let written : AllByRecursion IsWritten lines = each_reverse IsWritten (map words_in entries) (words_written entries run) in
     let bytes : lines_text lines ≡ back_text entries = ap lines_text (sym (map_reverse words_in entries)) ∙ lines_back entries in
-    let counted = length-reverse (map words_in entries) in (
-      (map words_in entries, ap (λ (l : List ℕ). lines_of (l ++ rest)) (sym bytes) ∙ lines_of-lines lines rest written, refl, run_say entries run),
-      ap (λ (l : List ℕ). after_lines (length (map words_in entries)) (l ++ rest)) (sym bytes) ∙ ap (λ (n : ℕ). after_lines n (lines_text lines ++ rest)) (sym counted) ∙ after_lines-lines lines rest written,
-    )
+    ap plain_lines (sym bytes ∙ sym (append-nil (lines_text lines))) ∙ lines_of-lines lines [] written ∙ ap (λ (l : List Line). lines ++ l) no_lines ∙ append-nil lines
+
+pub back_length : (entries : List Entry) → Run entries → length (plain_lines (back_text entries)) ≡ length (map words_in entries)
+back_length entries run = ap length (plain_back entries run) ∙ length-reverse (map words_in entries)
+
+pub spells_from : (text : List ℕ) (count : ℕ) (entries : List Entry) (rest : List Line) → Reads (lines_of text) count entries rest → Spells (back_text entries) text (after_lines count text)
+spells_from text count entries rest reads =
+    let p = say_run reads.0 entries reads.3 in
+    record {
+      after = rest;
+      lines = reads.1 ∙ ap (λ (ls : List Line). reverse ls ++ rest) p.0 ∙ ap (λ (ls : List Line). ls ++ rest) (sym (plain_back entries p.1));
+      ends = ap (λ (n : ℕ). after_lines n text) (back_length entries p.1 ∙ ap length (sym p.0) ∙ reads.2);
+    }
+
+-- the game of a finished chain, with these coprime weights
+pub finished_text : (entries : List Entry) (f : Finished entries) (p : Parts f.front.shape.states f.front.first) (text rest : List ℕ) → Spells (back_text (End ∷ entries)) text rest
+    → IsTextOf (game_from f.front.shape p.kept f.front.rs f.front.rows) text rest
+finished_text entries f p text rest spells =
+    let shape = f.front.shape in
+    let g = game_from shape p.kept f.front.rs f.front.rows in
+    let same : back_text (End ∷ entries) ≡ text_of g (scaled p.times p.kept) =
+    ap (λ (es : List Entry). back_text (End ∷ es)) f.front.same
+    ∙ whole_bytes shape p.kept f.front.first f.front.rs f.front.rows f.front.good f.whole.count
+    ∙ ap (text_of g) (sym p.same) in
+    record {
+      game = game_is shape p.kept f.front.rs f.front.rows f.front.limits p.belief p.coprime f.whole;
+      times = p.times;
+      some = p.some;
+      first = subst (IsBelief shape.states) (sym p.same) f.front.belief;
+      same = subst (λ (plain : List ℕ). Spells plain text rest) same spells;
+    }
+
+pub lines_are_texts : (text : List ℕ) (count : ℕ) (entries : List Entry) (rest : List Line) → ReadsAll (lines_of text) count entries rest → (g : GameData) × IsTextOf g text (after_lines count text)
+lines_are_texts text count entries rest reads =
+    let run = (say_run reads.0 (End ∷ entries) reads.3).1 in
+    let f = finished entries run in
+    let p = parts f.front.shape.states f.front.first f.front.belief in
+    (game_from f.front.shape p.kept f.front.rs f.front.rows, finished_text entries f p text (after_lines count text) (spells_from text count (End ∷ entries) rest reads))
+
+-- from a game to lines
 
 -- what a text of a game says
 abbrev pub entries_of : GameData → List ℤ → List Entry
@@ -115,8 +118,9 @@ entries_of g first = spelled g.shape first (rewards_back g) (rows_back g)
 
 pub record ReadAs (g : GameData) (text rest : List ℕ) (t : IsTextOf g text rest) : Type 0 where
   pub count : ℕ
-  pub reads : ReadsAll (lines_of text) count (entries_of g (scaled t.times g.first)) (lines_of rest)
-  pub after : after_lines count text ≡ rest
+  pub after : List Line
+  pub reads : ReadsAll (lines_of text) count (entries_of g (scaled t.times g.first)) after
+  pub ends : after_lines count text ≡ rest
 
 pub text_reads : (g : GameData) (text rest : List ℕ) (t : IsTextOf g text rest) → ReadAs g text rest t
 text_reads g text rest t =
@@ -126,12 +130,12 @@ text_reads g text rest t =
     let run = end_run g.shape first (rewards_back g) (rows_back g) t.game.shape t.first whole in
     let bytes : back_text (End ∷ entries) ≡ text_of g first =
     whole_bytes g.shape g.first first (rewards_back g) (rows_back g) whole.good whole.count ∙ ap (λ (x : GameData). text_of x first) (game_again g) in
-    let same : text ≡ back_text (End ∷ entries) ++ rest = t.same ∙ ap (λ (l : List ℕ). l ++ rest) (sym bytes) in
-    let p = run_reads (End ∷ entries) rest run in
+    let spells : Spells (back_text (End ∷ entries)) text rest = subst (λ (plain : List ℕ). Spells plain text rest) (sym bytes) t.same in
     record {
       count = length (map words_in (End ∷ entries));
-      reads = subst (λ (x : List ℕ). ReadsAll (lines_of x) (length (map words_in (End ∷ entries))) entries (lines_of rest)) (sym same) p.0;
-      after = ap (after_lines (length (map words_in (End ∷ entries)))) same ∙ p.1;
+      after = spells.after;
+      reads = (map words_in (End ∷ entries), spells.lines ∙ ap (λ (ls : List Line). ls ++ spells.after) (plain_back (End ∷ entries) run), refl, run_say (End ∷ entries) run);
+      ends = ap (λ (n : ℕ). after_lines n text) (sym (back_length (End ∷ entries) run)) ∙ spells.ends;
     }
 
 -- a text is of one game
@@ -201,43 +205,45 @@ texts_are_games text rest g h other t u =
     let b = text_reads h text other u in
     let v = scaled t.times g.first in
     let w = scaled u.times h.first in
-    let same = accepted_once (lines_of text) a.count b.count (entries_of g v) (entries_of h w) (lines_of rest) (lines_of other) a.reads b.reads in (
+    let same = accepted_once (lines_of text) a.count b.count (entries_of g v) (entries_of h w) a.after b.after a.reads b.reads in (
       game_from_entries g h v w t.times u.times t.game u.game t.some refl refl (tail_same End End (entries_of g v) (entries_of h w) same.1),
-      sym a.after ∙ ap (λ (n : ℕ). after_lines n text) same.0 ∙ b.after,
+      sym a.ends ∙ ap (λ (n : ℕ). after_lines n text) same.0 ∙ b.ends,
     )
+
+pub wholes_are_games : (text : List ℕ) (g h : GameData) → IsWholeTextOf g text → IsWholeTextOf h text → g ≡ h
+wholes_are_games text g h t u = (texts_are_games (completed text) t.0 g h u.0 t.1 u.1).0
 
 -- what is accepted is not refused, and a text is refused once
 
-pub text_not_refused : (text rest : List ℕ) (g : GameData) (number : ℕ) (kind : Kind) → IsTextOf g text rest → Halts (lines_of text) number kind → ⊥
+pub text_not_refused : (text rest : List ℕ) (g : GameData) (number : ℕ) (kind : Kind) → IsTextOf g text rest → Stops text number kind → ⊥
 text_not_refused text rest g number kind t r =
     let a = text_reads g text rest t in
-    not_both (lines_of text) a.count (entries_of g (scaled t.times g.first)) (lines_of rest) number kind a.reads r
+    not_both (lines_of text) a.count (entries_of g (scaled t.times g.first)) a.after r.0 kind a.reads r.1
 
-goes_not_on : (text : List ℕ) (g : GameData) (t : IsTextOf g text []) (number : ℕ) (kind : Kind) → GoesPast text number kind → ⊥
-goes_not_on text g t number kind more =
-    let a = text_reads g text [] t in
-    let same = accepted_once (lines_of text) a.count more.0 (entries_of g (scaled t.times g.first)) more.1 (lines_of []) more.2 a.reads more.3 in
-    let none : after_lines more.0 text ≡ [] = ap (λ (n : ℕ). after_lines n text) (sym same.0) ∙ a.after in
-    omega (arith, more.4, ap length none)
+goes_not_on : (text rest : List ℕ) (g : GameData) (t : IsTextOf g text rest) (number : ℕ) (kind : Kind) → IsWordless rest → GoesPast text number kind → ⊥
+goes_not_on text rest g t number kind none r =
+    let a = text_reads g text rest t in
+    let same = accepted_once (lines_of text) a.count r.0 (entries_of g (scaled t.times g.first)) r.1 a.after r.2 a.reads r.3 in
+    r.4 (subst IsWordless (sym a.ends ∙ ap (λ (n : ℕ). after_lines n text) same.0) none)
 
-pub whole_not_refused : (text : List ℕ) (g : GameData) (number : ℕ) (kind : Kind) → IsTextOf g text [] → HaltsAlone text number kind → ⊥
-whole_not_refused text g number kind t (inl r) = text_not_refused text [] g number kind t r
-whole_not_refused text g number kind t (inr more) = goes_not_on text g t number kind more
+pub whole_not_refused : (text rest : List ℕ) (g : GameData) (number : ℕ) (kind : Kind) → IsTextOf g text rest → IsWordless rest → StopsWhole text number kind → ⊥
+whole_not_refused text rest g number kind t none (inl r) = text_not_refused text rest g number kind t r
+whole_not_refused text rest g number kind t none (inr r) = goes_not_on text rest g t number kind none r
 
-pub text_refused_once : (text : List ℕ) (m n : ℕ) (j k : Kind) → HaltsAlone text m j → HaltsAlone text n k → (m ≡ n) × (j ≡ k)
-text_refused_once text m n j k (inl a) (inl b) = refused_once (lines_of text) m n j k a b
-text_refused_once text m n j k (inl a) (inr b) = absurd (not_both (lines_of text) b.0 b.1 b.2 m j b.3 a)
-text_refused_once text m n j k (inr a) (inl b) = absurd (not_both (lines_of text) a.0 a.1 a.2 n k a.3 b)
+pub front_refused_once : (text : List ℕ) (m n : ℕ) (j k : Kind) → Stops text m j → Stops text n k → (m ≡ n) × (j ≡ k)
+front_refused_once text m n j k a b =
+    let same = refused_once (lines_of text) a.0 b.0 j k a.1 b.1 in
+    (a.2 ∙ ap (λ (place : ℕ). number_in place text) same.0 ∙ sym b.2, same.1)
+
+pub text_refused_once : (text : List ℕ) (m n : ℕ) (j k : Kind) → StopsWhole text m j → StopsWhole text n k → (m ≡ n) × (j ≡ k)
+text_refused_once text m n j k (inl a) (inl b) = front_refused_once text m n j k a b
+text_refused_once text m n j k (inl a) (inr b) = absurd (not_both (lines_of text) b.0 b.1 b.2 a.0 j b.3 a.1)
+text_refused_once text m n j k (inr a) (inl b) = absurd (not_both (lines_of text) a.0 a.1 a.2 b.0 k a.3 b.1)
 text_refused_once text m n j k (inr a) (inr b) =
     let same = accepted_once (lines_of text) a.0 b.0 a.1 b.1 a.2 b.2 a.3 b.3 in
-    (omega (arith, same.0, a.5, b.5), a.6 ∙ sym b.6)
+    (a.5 ∙ ap (λ (count : ℕ). number_in (count + 1) text) same.0 ∙ sym b.5, a.6 ∙ sym b.6)
 
-pub texts_are_read : (text rest : List ℕ) (g : GameData) → IsTextOf g text rest → (count : ℕ) × (entries : List Entry) × ReadsAll (lines_of text) count entries (lines_of rest) × (after_lines count text ≡ rest)
+pub texts_are_read : (text rest : List ℕ) (g : GameData) → IsTextOf g text rest → (count : ℕ) × (entries : List Entry) × (after : List Line) × ReadsAll (lines_of text) count entries after × (after_lines count text ≡ rest)
 texts_are_read text rest g t =
     let a = text_reads g text rest t in
-    (a.count, entries_of g (scaled t.times g.first), a.reads, a.after)
-
-pub any_rest : (g : GameData) (front rest other : List ℕ) → IsTextOf g (front ++ rest) rest → IsTextOf g (front ++ other) other
-any_rest g front rest other t =
-    let same : front ≡ text_of g (scaled t.times g.first) = append_cancel_right front (text_of g (scaled t.times g.first)) rest t.same in
-    record { game = t.game; times = t.times; some = t.some; first = t.first; same = ap (λ (l : List ℕ). l ++ other) same }
+    (a.count, entries_of g (scaled t.times g.first), a.after, a.reads, a.ends)

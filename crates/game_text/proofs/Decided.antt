@@ -1,13 +1,14 @@
 -- Each text is accepted or refused.
 use Rattle.std.proofs.Common.{◌≡◌, ℕ, ◌+◌, ◌<◌, List, [], ◌∷◌, length, Result, Ok, Err, refl, sym, ap, subst, arith, inl, inr, ◌⊎◌}
-use Rattle.text_words.specs.Lines.{Line, lines_of, after_lines}
+use Rattle.text_words.specs.Lines.{Line, Word}
+use Rattle.game_text.specs.Plain.{IsWordless, after_lines, lines_of, number_in, open_words}
 use Rattle.game_model.specs.Game.{GameData}
 use Rattle.game_text.specs.declared.fault.Kind.{Kind}
 use Rattle.game_text.specs.declared.fault.Kind.TheVariants as kinds
 use Rattle.game_text.specs.Text.{IsTextOf}
 use Rattle.game_text.specs.Entries.{Entry, Version, Size, Total, Discount, First, Step, Out, End, entry_of}
 use Rattle.game_text.specs.Reading.{IsUnfinished}
-use Rattle.game_text.specs.Steps.{Reads, ReadsAll, Halts, HaltsAlone, line_at}
+use Rattle.game_text.specs.Steps.{Reads, ReadsAll, Halts, Stops, StopsWhole, line_at}
 use Rattle.game_text.proofs.Reading.{reads_none, reads_more}
 use Rattle.game_text.proofs.Accept.{lines_are_texts}
 
@@ -62,20 +63,34 @@ decided_from lines (line ∷ rest) count entries reads = elim (ended_or_not entr
   | inr due ↦ goes lines line rest count entries reads due (λ entry more. decided_from lines rest (count + 1) (entry ∷ entries) more) (entry_of entries line) refl
 ]
 
-pub decided : (text : List ℕ) → ((g : GameData) × (rest : List ℕ) × IsTextOf g text rest) ⊎ ((number : ℕ) × (kind : Kind) × Halts (lines_of text) number kind)
+some_words : (word : Word) (words : Line) → word ∷ words ≡ [] → ⊥
+some_words word words e = cc
+
+some_lines : (line : Line) (lines : List Line) → line ∷ lines ≡ [] → ⊥
+some_lines line lines e = cc
+
+none_or_some : (lines : List Line) (words : Line) → ((lines ≡ []) × (words ≡ [])) ⊎ ((lines ≡ []) × (words ≡ []) → ⊥)
+none_or_some [] [] = inl (refl, refl)
+none_or_some [] (word ∷ words) = inr (λ p. some_words word words p.1)
+none_or_some (line ∷ lines) words = inr (λ p. some_lines line lines p.0)
+
+-- the bytes have words or have none
+words_or_none : (text : List ℕ) → IsWordless text ⊎ (IsWordless text → ⊥)
+words_or_none text = none_or_some (lines_of text) (open_words text)
+
+pub decided : (text : List ℕ) → ((g : GameData) × (rest : List ℕ) × IsTextOf g text rest) ⊎ ((number : ℕ) × (kind : Kind) × Stops text number kind)
 decided text = elim (decided_from (lines_of text) (lines_of text) 0 [] (reads_none (lines_of text))) [
   | inl a ↦ let p = lines_are_texts text a.0 a.1 a.2 a.3 in inl (p.0, after_lines a.0 text, p.1)
-  | inr r ↦ inr r
+  | inr r ↦ inr (number_in r.0 text, r.1, (r.0, r.2, refl))
 ]
 
-alone : (text : List ℕ) (a : Accepted (lines_of text)) (left : List ℕ) → left ≡ after_lines a.0 text → ((g : GameData) × IsTextOf g text []) ⊎ ((number : ℕ) × (kind : Kind) × HaltsAlone text number kind)
-alone text a [] e = let p = lines_are_texts text a.0 a.1 a.2 a.3 in inl (p.0, subst (IsTextOf p.0 text) (sym e) p.1)
-alone text a (byte ∷ left) e =
-    let some : 0 < length (after_lines a.0 text) = omega (arith, ap length e) in
-    inr (a.0 + 1, kinds.Trailing, inr (a.0, a.1, a.2, a.3, some, refl, refl))
+whole : (text : List ℕ) (a : Accepted (lines_of text)) → IsWordless (after_lines a.0 text) ⊎ (IsWordless (after_lines a.0 text) → ⊥)
+    → ((g : GameData) × (rest : List ℕ) × IsTextOf g text rest × IsWordless rest) ⊎ ((number : ℕ) × (kind : Kind) × StopsWhole text number kind)
+whole text a (inl none) = let p = lines_are_texts text a.0 a.1 a.2 a.3 in inl (p.0, after_lines a.0 text, p.1, none)
+whole text a (inr some) = inr (number_in (a.0 + 1) text, kinds.Trailing, inr (a.0, a.1, a.2, a.3, some, refl, refl))
 
-pub decided_alone : (text : List ℕ) → ((g : GameData) × IsTextOf g text []) ⊎ ((number : ℕ) × (kind : Kind) × HaltsAlone text number kind)
-decided_alone text = elim (decided_from (lines_of text) (lines_of text) 0 [] (reads_none (lines_of text))) [
-  | inl a ↦ alone text a (after_lines a.0 text) refl
-  | inr r ↦ inr (r.0, r.1, inl r.2)
+pub decided_whole : (text : List ℕ) → ((g : GameData) × (rest : List ℕ) × IsTextOf g text rest × IsWordless rest) ⊎ ((number : ℕ) × (kind : Kind) × StopsWhole text number kind)
+decided_whole text = elim (decided_from (lines_of text) (lines_of text) 0 [] (reads_none (lines_of text))) [
+  | inl a ↦ whole text a (words_or_none (after_lines a.0 text))
+  | inr r ↦ inr (number_in r.0 text, r.1, inl (r.0, r.2, refl))
 ]

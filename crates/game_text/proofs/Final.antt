@@ -1,20 +1,22 @@
 -- The game that a reader builds is that of the text.
 use Rattle.std.proofs.Common.{◌≡◌, ℕ, ◌+◌, ◌-◌, ◌≤◌, List, ◌∷◌, ◌++◌, reverse, length, map, drop, ℤ, sym, ap, subst, ◌∙◌, arith, length-append}
 use Rattle.std.proofs.lemmas.List.{drop_at}
-use Rattle.text_words.specs.Lines.{lines_of, after_lines}
-use Rattle.text_words.proofs.Whole.{after_lines-add}
+use Rattle.text_words.specs.Lines.{Line}
+use Rattle.game_text.specs.Plain.{after_lines, lines_of}
+use Rattle.game_text.specs.Places.{IsAt}
+use Rattle.game_text.proofs.Behind.{is_behind}
 use Rattle.game_model.specs.declared.parts.Shape.{Shape}
 use Rattle.game_model.specs.declared.parts.Landing.{Landing}
 use Rattle.game_model.specs.Game.{GameData, IsGame, IsBelief}
-use Rattle.game_text.specs.Text.{IsTextOf}
+use Rattle.game_text.specs.Text.{IsTextOf, Spells}
 use Rattle.game_text.specs.Entries.{Entry, End, shape_in}
 use Rattle.game_text.specs.Steps.{Reads}
-use Rattle.game_text.specs.Built.{rewards_in, rows_in, IsBuilt, IsEnded, EndsAfter}
-use Rattle.game_text.proofs.Runs.{shape_spelled}
+use Rattle.game_text.specs.Built.{rewards_in, rows_in, IsBuilt, IsEnded, EndsAt}
+use Rattle.game_text.proofs.Runs.{say_run, shape_spelled}
 use Rattle.game_text.proofs.Spells.{finished, game_from}
 use Rattle.game_text.proofs.Bytes.{back_text}
 use Rattle.game_text.proofs.Coprime.{Parts}
-use Rattle.game_text.proofs.Accept.{accepted_bytes, finished_text, weights_in, weights_spelled, rewards_spelled, rows_spelled}
+use Rattle.game_text.proofs.Accept.{spells_from, finished_text, weights_in, weights_spelled, rewards_spelled, rows_spelled}
 
 pub same_fields : (g : GameData) (shape : Shape) (rs : List ℤ) (rows : List (List Landing)) → g.shape ≡ shape → g.rewards ≡ reverse rs → g.rows ≡ reverse (map reverse rows) → game_from shape g.first rs rows ≡ g
 same_fields g shape rs rows p q r =
@@ -22,11 +24,11 @@ same_fields g shape rs rows p q r =
     ∙ ap (λ (x : List ℤ). record g { rewards = x; rows = reverse (map reverse rows) }) (sym q)
     ∙ ap (λ (x : List (List Landing)). record g { rows = x }) (sym r)
 
-built_game : (text : List ℕ) (count : ℕ) (before : List Entry) (rest : List ℕ) (first : List ℤ) (g : GameData) → Reads (lines_of text) count (End ∷ before) (lines_of rest) → after_lines count text ≡ rest
+pub built_game : (text : List ℕ) (count : ℕ) (before : List Entry) (after : List Line) (rest : List ℕ) (first : List ℤ) (g : GameData) → Reads (lines_of text) count (End ∷ before) after → after_lines count text ≡ rest
     → IsBuilt first (End ∷ before) g → weights_in before ≡ first → IsGame g → IsTextOf g text rest
-built_game text count before rest first g reads after built weights game =
-    let b = accepted_bytes text count (End ∷ before) (lines_of rest) reads in
-    let f = finished before b.1 in
+built_game text count before after rest first g reads ends built weights game =
+    let run = (say_run reads.0 (End ∷ before) reads.3).1 in
+    let f = finished before run in
     let F = f.front in
     let shape : g.shape ≡ F.shape = built.shape ∙ ap shape_in F.same ∙ shape_spelled F.shape F.first F.rs F.rows in
     let rewards : g.rewards ≡ reverse F.rs = built.rewards ∙ ap (λ (es : List Entry). reverse (rewards_in es)) F.same ∙ ap reverse (rewards_spelled F.shape F.first F.rs F.rows F.good) in
@@ -41,10 +43,8 @@ built_game text count before rest first g reads after built weights game =
       coprime = game.coprime;
       belief = subst (λ (x : Shape). IsBelief x.states g.first) shape game.first;
     } in
-    let t = finished_text before f p rest in
-    let same : text ≡ back_text (End ∷ before) ++ rest = b.0 ∙ ap (λ (l : List ℕ). back_text (End ∷ before) ++ l) after in
-    subst (λ (x : GameData). IsTextOf x text rest) (same_fields g F.shape F.rs F.rows shape rewards rows)
-    (subst (λ (x : List ℕ). IsTextOf (game_from F.shape g.first F.rs F.rows) x rest) (sym same) t)
+    let spells = subst (Spells (back_text (End ∷ before)) text) ends (spells_from text count (End ∷ before) after reads) in
+    subst (λ (x : GameData). IsTextOf x text rest) (same_fields g F.shape F.rs F.rows shape rewards rows) (finished_text before f p text rest spells)
 
 -- what is left of the bytes stands behind their front
 dropped : (text front rest : List ℕ) → text ≡ front ++ rest → (length text - length rest ≤ length text) × (drop (length text - length rest) text ≡ rest)
@@ -52,26 +52,22 @@ dropped text front rest e =
     let counted : length front ≡ length text - length rest = omega (arith, ap length e, length-append {A = ℕ}) in
     (omega arith, ap (drop (length text - length rest)) e ∙ drop_at front rest (length text - length rest) counted)
 
-pub record Found (text : List ℕ) (count offset : ℕ) (g : GameData) : Type 0 where
-  pub offset_within : offset ≤ length text
-  pub ends : EndsAfter text count (drop offset text)
+pub record Found (text : List ℕ) (offset lines : ℕ) (rest : List ℕ) (g : GameData) : Type 0 where
+  pub dropped : drop offset text ≡ rest
+  pub ends : EndsAt text lines (drop offset text)
   pub game : IsTextOf g text (drop offset text)
 
-found_at : (text : List ℕ) (count : ℕ) (before : List Entry) (rest : List ℕ) (first : List ℤ) (g : GameData) → Reads (lines_of text) count (End ∷ before) (lines_of rest) → after_lines count text ≡ rest
-    → IsBuilt first (End ∷ before) g → weights_in before ≡ first → IsGame g → Found text count (length text - length rest) g
-found_at text count before rest first g reads after built weights game =
-    let b = accepted_bytes text count (End ∷ before) (lines_of rest) reads in
-    let d = dropped text (back_text (End ∷ before)) rest (b.0 ∙ ap (λ (l : List ℕ). back_text (End ∷ before) ++ l) after) in
-    record {
-      offset_within = d.0;
-      ends = subst (EndsAfter text count) (sym d.1) (before, reads, after);
-      game = subst (IsTextOf g text) (sym d.1) (built_game text count before rest first g reads after built weights game);
-    }
-
-pub found : (text : List ℕ) (n : ℕ) (entries : List Entry) (body rest : List ℕ) (first : List ℤ) (g : GameData) → Reads (lines_of text) (5 + n) entries (lines_of rest) → body ≡ after_lines 5 text → rest ≡ after_lines n body
-    → IsEnded entries → IsBuilt first entries g → weights_in entries ≡ first → IsGame g → Found text (5 + n) (length text - length rest) g
-found text n entries body rest first g reads head tail ended built weights game =
-    let after : after_lines (5 + n) text ≡ rest = after_lines-add 5 n text ∙ sym (tail ∙ ap (after_lines n) head) in
+pub found : (text : List ℕ) (count : ℕ) (entries : List Entry) (lines : ℕ) (rest : List ℕ) (first : List ℤ) (g : GameData) → IsAt text count entries lines rest
+    → IsEnded entries → IsBuilt first entries g → weights_in entries ≡ first → IsGame g → Found text (length text - length rest) lines rest g
+found text count entries lines rest first g at ended built weights game =
+    let front = is_behind text count rest at.after in
+    let d = dropped text front.0 rest front.1 in
     let e = ended.1 in
-    found_at text (5 + n) ended.0 rest first g (subst (λ (x : List Entry). Reads (lines_of text) (5 + n) x (lines_of rest)) e reads) after
-    (subst (λ (x : List Entry). IsBuilt first x g) e built) (subst (λ (x : List Entry). weights_in x ≡ first) e weights) game
+    let here : IsAt text count (End ∷ ended.0) lines rest = subst (λ (es : List Entry). IsAt text count es lines rest) e at in
+    record {
+      dropped = d.1;
+      ends = subst (EndsAt text lines) (sym d.1) (count, ended.0, here);
+      game = subst (IsTextOf g text) (sym d.1)
+          (built_game text count ended.0 _ rest first g here.reads (sym here.after)
+          (subst (λ (x : List Entry). IsBuilt first x g) e built) (subst (λ (x : List Entry). weights_in x ≡ first) e weights) game);
+    }

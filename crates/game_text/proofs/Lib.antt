@@ -14,6 +14,7 @@ pub mod Bytes
 pub mod Coprime
 pub mod Accept
 pub mod Building
+pub mod Behind
 pub mod Final
 pub mod Earlier
 pub mod Refusals
@@ -24,4 +25,7 @@ pub mod RuleTests
 pub mod Verdicts
 pub mod Judged
 pub mod Ruled
+pub mod Written
+pub mod AnyRest
+pub mod Wordless
 pub mod Canonical

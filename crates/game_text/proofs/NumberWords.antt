@@ -96,6 +96,33 @@ unfolding number_of strict.number_of
 none_plain word e =
     none_again word (eqb (get_or word 0 0) 45) (eqb (get_or word 0 0) 43) (eqb (get_or word 0 0) 48) (ltb 1 (length word)) (eqb (get_or word 1 0) 48) (natural_of (drop 1 word)) (natural_of word) (plus_is word) e
 
+some_natural : ℕ → Option ℕ
+some_natural n = Some n
+
+-- a word of a plain number stands for it
+none_some : (n : ℕ) → some_natural n ≡ None → ⊥
+unfolding some_natural
+none_some n e = cc
+
+some_again : (minus plus zero many second : Bool) (rest whole : Option ℕ) (z : ℤ) → (plus ≡ true → whole ≡ None)
+    → cond minus (cond second None (option_map (λ n. neg_ℤ (pos n)) rest)) (cond (zero && many) None (option_map pos whole)) ≡ Some z
+    → cond minus (option_map (λ n. neg_ℤ (pos n)) rest) (cond plus (option_map pos rest) (option_map pos whole)) ≡ Some z
+unfolding some_natural
+some_again true plus zero many true rest whole z f e = absurd cc
+some_again true plus zero many false rest whole z f e = e
+some_again false plus true true second rest whole z f e = absurd cc
+some_again false true true false second rest None z f e = absurd cc
+some_again false true true false second rest (Some n) z f e = absurd (none_some n (f refl))
+some_again false true false many second rest None z f e = absurd cc
+some_again false true false many second rest (Some n) z f e = absurd (none_some n (f refl))
+some_again false false true false second rest whole z f e = e
+some_again false false false many second rest whole z f e = e
+
+pub number_again : (word : List ℕ) (z : ℤ) → strict.number_of word ≡ Some z → number_of word ≡ Some z
+unfolding number_of strict.number_of
+number_again word z e =
+    some_again (eqb (get_or word 0 0) 45) (eqb (get_or word 0 0) 43) (eqb (get_or word 0 0) 48) (ltb 1 (length word)) (eqb (get_or word 1 0) 48) (natural_of (drop 1 word)) (natural_of word) z (plus_is word) e
+
 printed_again : (word : List ℕ) (o : Option ℤ) → number_of word ≡ o → Small o → strict.number_of (printed_or word o) ≡ o
 printed_again word None e s = none_plain word e
 printed_again word (Some z) e s = number_of-printed z s

@@ -1,11 +1,11 @@
 -- The lines of a text that have words, one after another.
-use Rattle.std.proofs.Common.{◌≡◌, ℕ, ◌+◌, ◌-◌, ◌<◌, ◌≤◌, Bool, true, false, cond, ltb, eqb, List, [], ◌∷◌, ◌++◌, length, get_or, map, take, drop, Option, Some, None, refl, sym, ap, subst, ◌∙◌, arith}
+use Rattle.std.proofs.Common.{◌≡◌, ℕ, ◌+◌, ◌-◌, ◌<◌, ◌≤◌, Bool, true, false, cond, ltb, eqb, List, [], ◌∷◌, ◌++◌, length, get_or, map, take, drop, Option, Some, None, Bor, refl, sym, ap, subst, ◌∙◌, arith}
 use Rattle.std.specs.Prelude.{codes}
 use Rattle.std.specs.List.{slice_split, position_or_len, join_with_byte}
 use Rattle.std.proofs.lemmas.Bool.{ltb-false, ltb-true}
 use Rattle.std.proofs.lemmas.List.{take_all}
 use Rattle.std.proofs.lemmas.List.Splits.{length-slice_split, join_with_byte-slice_split}
-use Rattle.text_words.specs.Lines.{Line}
+use Rattle.text_words.specs.Lines.{Line, line_in}
 use Rattle.game_text.specs.Plain.{before_comment, last_of, last_piece, onto, pieces_of, plain_line, words_of, worded, worded_in, Worded}
 
 -- ---- what stands before a comment
@@ -68,3 +68,9 @@ last_more line (next ∷ pieces) some = refl
 
 pub last_piece-line : (text line rest : List ℕ) → pieces_of text ≡ line ∷ pieces_of rest → last_piece text ≡ last_piece rest
 last_piece-line text line rest e = ap last_of e ∙ last_more line (pieces_of rest) (omega (arith, length-slice_split is_feed rest))
+
+-- ---- words that are read
+
+pub no_words : (words : List (Bor (List ℕ))) (line : Line) → line_in words ≡ line → length words ≡ 0 → line ≡ []
+no_words [] line e none = sym e
+no_words (word ∷ words) line e none = absurd (omega arith)

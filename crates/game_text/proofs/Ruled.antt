@@ -2,21 +2,23 @@
 use Rattle.std.proofs.Common.{◌≡◌, ℕ, List, [], ◌∷◌, Result, Ok, Err, refl, sym, ap, subst, ◌∙◌, arith, inl, inr, ◌⊎◌}
 use Rattle.std.specs.Prelude.{◌==◌, if◌then◌else◌}
 use Rattle.std.proofs.lemmas.Bool.{cases_lt}
-use Rattle.text_words.specs.Lines.{Line, lines_of}
+use Rattle.text_words.specs.Lines.{Line}
+use Rattle.game_text.specs.Plain.{completed, lines_of}
 use Rattle.text_words.specs.Forms.{◌>>=◌}
 use Rattle.game_model.specs.Game.{GameData}
 use Rattle.game_text.specs.declared.fault.Kind.{Kind}
 use Rattle.game_text.specs.declared.fault.Kind.TheVariants as kinds
 use Rattle.game_text.specs.Fault.{number_of_kind}
-use Rattle.game_text.specs.Text.{IsTextOf}
+use Rattle.game_text.specs.Text.{IsTextOf, IsWholeTextOf}
 use Rattle.game_text.specs.Entries.{Entry, End, entry_of}
 use Rattle.game_text.specs.Due.{Form, due, IsOneOf}
 use Rattle.game_text.specs.Rules.{IsPassed, IsLeast}
-use Rattle.game_text.specs.Reading.{ArePassed, Passes, IsUnfinished, IsLineRefused, Accepts, Refuses, RefusesAlone}
-use Rattle.game_text.specs.Steps.{Say, line_at, Reads, ReadsAll, Halts, HaltsAlone}
+use Rattle.game_text.specs.Reading.{ArePassed, Passes, IsUnfinished, IsLineRefused, Accepts, Refuses, RefusesAlone, RefusesText, RefusesWhole, told}
+use Rattle.game_text.specs.Steps.{Say, line_at, Reads, ReadsAll, Halts, Stops, StopsWhole}
 use Rattle.game_text.proofs.OneForm.{same_entry}
 use Rattle.game_text.proofs.Judged.{Judged, judge}
-use Rattle.game_text.proofs.Decided.{decided, decided_alone}
+use Rattle.game_text.proofs.Accept.{text_refused_once, whole_not_refused}
+use Rattle.game_text.proofs.Decided.{decided, decided_whole}
 
 entry_read : Entry → Result Entry Kind
 entry_read e = Ok e
@@ -150,24 +152,40 @@ refuses_from lines number kind r = (r.0, r.1, r.2, r.3, reads_pass lines r.0 r.1
 pub refuses_to : (lines : List Line) (number : ℕ) (kind : Kind) → Refuses lines number kind → Halts lines number kind
 refuses_to lines number kind r = (r.0, r.1, r.2, r.3, passes_read lines r.0 r.1 r.2 r.4, r.5, refused_stop r.1 r.2 kind r.5 r.6)
 
-pub alone_from : (text : List ℕ) (number : ℕ) (kind : Kind) → HaltsAlone text number kind → RefusesAlone text number kind
-alone_from text number kind (inl r) = inl (refuses_from (lines_of text) number kind r)
-alone_from text number kind (inr r) = inr (r.0, r.1, r.2, accepts_from (lines_of text) r.0 r.1 r.2 r.3, r.4, r.5, r.6)
+pub text_from : (text : List ℕ) (number : ℕ) (kind : Kind) → Stops text number kind → RefusesText text number kind
+text_from text number kind r = (r.0, refuses_from (lines_of text) r.0 kind r.1, r.2)
 
-pub alone_to : (text : List ℕ) (number : ℕ) (kind : Kind) → RefusesAlone text number kind → HaltsAlone text number kind
-alone_to text number kind (inl r) = inl (refuses_to (lines_of text) number kind r)
-alone_to text number kind (inr r) = inr (r.0, r.1, r.2, accepts_to (lines_of text) r.0 r.1 r.2 r.3, r.4, r.5, r.6)
+pub text_to : (text : List ℕ) (number : ℕ) (kind : Kind) → RefusesText text number kind → Stops text number kind
+text_to text number kind r = (r.0, refuses_to (lines_of text) r.0 kind r.1, r.2)
+
+pub whole_from : (text : List ℕ) (number : ℕ) (kind : Kind) → StopsWhole text number kind → RefusesWhole text number kind
+whole_from text number kind (inl r) = inl (text_from text number kind r)
+whole_from text number kind (inr r) = inr (r.0, r.1, r.2, accepts_from (lines_of text) r.0 r.1 r.2 r.3, r.4, r.5, r.6)
+
+pub whole_to : (text : List ℕ) (number : ℕ) (kind : Kind) → RefusesWhole text number kind → StopsWhole text number kind
+whole_to text number kind (inl r) = inl (text_to text number kind r)
+whole_to text number kind (inr r) = inr (r.0, r.1, r.2, accepts_to (lines_of text) r.0 r.1 r.2 r.3, r.4, r.5, r.6)
 
 -- ---- each text is one of a game, or is refused
 
-pub answered : (text : List ℕ) → ((g : GameData) × (rest : List ℕ) × IsTextOf g text rest) ⊎ ((number : ℕ) × (kind : Kind) × Refuses (lines_of text) number kind)
+pub answered : (text : List ℕ) → ((g : GameData) × (rest : List ℕ) × IsTextOf g text rest) ⊎ ((number : ℕ) × (kind : Kind) × RefusesText text number kind)
 answered text = elim (decided text) [
   | inl t ↦ inl t
-  | inr r ↦ inr (r.0, r.1, refuses_from (lines_of text) r.0 r.1 r.2)
+  | inr r ↦ inr (r.0, r.1, text_from text r.0 r.1 r.2)
 ]
 
-pub answered_alone : (text : List ℕ) → ((g : GameData) × IsTextOf g text []) ⊎ ((number : ℕ) × (kind : Kind) × RefusesAlone text number kind)
-answered_alone text = elim (decided_alone text) [
-  | inl t ↦ inl t
-  | inr r ↦ inr (r.0, r.1, alone_from text r.0 r.1 r.2)
+-- ---- bytes that are read alone
+
+pub answered_alone : (text : List ℕ) → ((g : GameData) × IsWholeTextOf g text) ⊎ ((number : ℕ) × (kind : Kind) × RefusesAlone text number kind)
+answered_alone text = elim (decided_whole (completed text)) [
+  | inl t ↦ inl (t.0, (t.1, t.2, t.3))
+  | inr r ↦ inr (r.0, told text r.0 r.1, (r.1, whole_from (completed text) r.0 r.1 r.2, refl))
 ]
+
+pub alone_not_refused : (text : List ℕ) (g : GameData) (number : ℕ) (kind : Kind) → IsWholeTextOf g text → RefusesAlone text number kind → ⊥
+alone_not_refused text g number kind t r = whole_not_refused (completed text) t.0 g number r.0 t.1 t.2 (whole_to (completed text) number r.0 r.1)
+
+pub alone_refused_once : (text : List ℕ) (m n : ℕ) (j k : Kind) → RefusesAlone text m j → RefusesAlone text n k → (m ≡ n) × (j ≡ k)
+alone_refused_once text m n j k a b =
+    let same = text_refused_once (completed text) m n a.0 b.0 (whole_to (completed text) m a.0 a.1) (whole_to (completed text) n b.0 b.1) in
+    (same.0, a.2 ∙ ap (λ (number : ℕ). told text number a.0) same.0 ∙ ap (told text n) same.1 ∙ sym b.2)

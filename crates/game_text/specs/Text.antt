@@ -60,7 +60,7 @@ scaled times weights = map (λ b. pos times *ℤ b) weights
 pub record Spells (plain text rest : List ℕ) : Type 0 where
   pub after : List Line
   pub lines : lines_of text ≡ plain_lines plain ++ after
-  pub rest : after_lines (length (plain_lines plain)) text ≡ rest
+  pub ends : after_lines (length (plain_lines plain)) text ≡ rest
 
 -- The bytes are a text of this game, whose `first` line has a multiple of its first belief that keeps the limits,
 -- and then the rest.

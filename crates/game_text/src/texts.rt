@@ -1,5 +1,5 @@
 //! Reads the text of a game, alone or at the front of a longer input.
-ghost use Rattle.std.specs.Prelude.{◌≡◌, ◌+◌, ◌^◌, ◌<◌, ◌≤◌, [], ◌∷◌, ◌++◌, length, drop, Err, IfOk, IfErr, OnOk};
+ghost use Rattle.std.specs.Prelude.{◌≡◌, ◌+◌, ◌^◌, ◌<◌, ◌≤◌, [], ◌∷◌, ◌++◌, length, drop, IfOk, IfErr, OnOk};
 ghost use Rattle.game_text.specs.declared.fault.Kind.TheVariants as kinds;
 ghost use Rattle.game_text.specs.declared.fault.TextFault.TheVariants as texts;
 ghost use Rattle.game_text.specs.Text.{IsTextOf, IsWholeTextOf};
@@ -65,27 +65,26 @@ fn nothing_more(alloc: Global, bytes: &[u8], before: u32) -> Result<(), TextFaul
     ensures wordless { OnOk result (IsWordless bytes.now) }
     ensures more { IfErr result (IsMore before bytes.now) }
 {
-    match next_words(alloc, bytes, before) {
-        Ok((_, _, line)) => trailing(line),
-        Err(TextFault::OutOfMemory) => Err(TextFault::OutOfMemory),
-        Err(TextFault::Line { line, .. }) => {
-            if open_words(alloc, bytes)?.is_empty() {
-                Ok(())
-            } else {
-                trailing(line)
-            }
-        }
+    let line = match next_words(alloc, bytes, before) {
+        Ok((_, _, line)) => return Err(trailing(line)),
+        Err(TextFault::OutOfMemory) => return Err(TextFault::OutOfMemory),
+        Err(TextFault::Line { line, .. }) => line,
+    };
+    let words = open_words(alloc, bytes)?;
+    if !words.is_empty() {
+        return Err(trailing(line));
     }
+    Ok(())
 }
 
-/// A line that follows the `end` line has words.
-fn trailing(line: u32) -> Result<(), TextFault>
-    ensures { result ≡ Err (texts.Line line kinds.Trailing) }
+/// The fault of a line that has words and follows the `end` line.
+fn trailing(line: u32) -> TextFault
+    ensures { result ≡ texts.Line line kinds.Trailing }
 {
-    Err(TextFault::Line {
+    TextFault::Line {
         line,
         kind: Kind::Trailing,
-    })
+    }
 }
 
 /// Reads a game text that is the whole of the bytes, in which each line is ended.

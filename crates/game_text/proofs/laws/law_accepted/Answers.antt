@@ -1,4 +1,4 @@
-use Rattle.text_words.specs.Lines.{lines_of}
+use Rattle.game_text.specs.Plain.{lines_of}
 use Rattle.game_text.proofs.Accept.{lines_are_texts}
 use Rattle.game_text.proofs.Ruled.{accepts_to}
 use Rattle.game_text.proofs.laws.law_accepted.Goals as goal

@@ -4,15 +4,12 @@ use Rattle.std.proofs.Common.{Bor}
 use Rattle.text_words.specs.Lines.{Line, line_in}
 use Rattle.game_text.specs.Plain.{pieces_of, plain_line, words_of, worded_in, Worded}
 use Rattle.game_text.proofs.Parted.{worded_in-none, worded_in-skip, worded_in-some}
+use Rattle.game_text.proofs.Parted.{no_words}
 use Rattle.game_text.proofs.lines.next_words.Goals as goal
 
 some_words : (words : List (Bor (List ℕ))) (line : Line) → line_in words ≡ line → 0 < length words → 0 < length line
 some_words [] line e some = absurd (omega arith)
 some_words (word ∷ words) line e some = omega (arith, ap length e)
-
-no_words : (words : List (Bor (List ℕ))) (line : Line) → line_in words ≡ line → length words ≡ 0 → line ≡ []
-no_words [] line e none = sym e
-no_words (word ∷ words) line e none = absurd (omega arith)
 
 with_words : ℕ → List ℕ → List Worded → Line → List Worded
 with_words number after lines words = record { number = number; words = plain_line words; after = after } ∷ lines

@@ -3,7 +3,7 @@ use Rattle.std.specs.Prelude.{◌*ℤ◌}
 use Rattle.std.specs.String.{string_bytes}
 use Rattle.std.proofs.lemmas.Int.{ints}
 use Rattle.game_model.specs.Game.{GameData, IsBelief, IsGame}
-use Rattle.game_text.specs.Text.{IsTextOf, header_text, rows_text, scaled, text_of}
+use Rattle.game_text.specs.Text.{IsWholeTextOf, header_text, rows_text, scaled, text_of}
 use Rattle.game_text.proofs.Canonical.{canonical-texts}
 use Rattle.text_words.proofs.Grown.{behind}
 use Rattle.text_words.specs.Spelled.{line_of}
@@ -21,4 +21,4 @@ returns-clause-canonical c =
     bytes ∙ whole ∙ ap (λ (l : List ℕ). l ++ text_of g g.first) none
 
 pub returns-clause-text : goal.returns-clause-text
-returns-clause-text c = subst (λ (bytes : List ℕ). IsTextOf c.args.game.now bytes []) (sym (returns-clause-canonical c)) (canonical-texts c.args.game.now c.law_game.ensures.accepted)
+returns-clause-text c = subst (IsWholeTextOf c.args.game.now) (sym (returns-clause-canonical c)) (canonical-texts c.args.game.now c.law_game.ensures.accepted).whole
