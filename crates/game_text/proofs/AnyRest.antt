@@ -1,5 +1,5 @@
 -- A text of a game is one whatever follows it.
-use Rattle.std.proofs.Common.{◌≡◌, ℕ, zero, suc, ◌+◌, ◌<◌, ◌≤◌, Bool, true, false, cond, eqb, List, [], ◌∷◌, ◌++◌, length, get_or, map, take, refl, sym, ap, subst, ◌∙◌, arith, append_assoc, length-append}
+use Rattle.std.proofs.Common.{◌≡◌, ℕ, zero, suc, ◌+◌, ◌<◌, Bool, true, false, List, [], ◌∷◌, ◌++◌, length, get_or, map, take, refl, sym, ap, subst, ◌∙◌, arith, append_assoc, length-append}
 use Rattle.std.specs.List.{AllByRecursion, join_with_byte, onto_first, slice_split}
 use Rattle.std.proofs.lemmas.List.{append_cancel_right, length-map}
 use Rattle.std.proofs.lemmas.List.Splits.{join_with_byte-slice_split, slice_split-cons_no, slice_split-cons_yes}
@@ -8,7 +8,7 @@ use Rattle.text_words.specs.Lines.{lines_of as plain_lines}
 use Rattle.text_words.proofs.Whole.{Lacks, split_at}
 use Rattle.game_text.specs.Laws.{AnyRest}
 use Rattle.game_text.specs.Plain.{after_lines, lines_of, onto, pieces_of, plain_line, words_at, words_of, worded, worded_in, Worded}
-use Rattle.game_text.specs.Text.{Spells, scaled, text_of}
+use Rattle.game_text.specs.Text.{scaled, text_of}
 use Rattle.game_text.proofs.Parted.{is_feed, worded_in-skip, worded_in-some}
 
 -- ---- no piece has a line feed

@@ -1,5 +1,5 @@
 -- Each text is accepted or refused.
-use Rattle.std.proofs.Common.{◌≡◌, ℕ, ◌+◌, ◌<◌, List, [], ◌∷◌, length, Result, Ok, Err, refl, sym, ap, subst, arith, inl, inr, ◌⊎◌}
+use Rattle.std.proofs.Common.{◌≡◌, ℕ, ◌+◌, List, [], ◌∷◌, Result, Ok, Err, refl, subst, inl, inr, ◌⊎◌}
 use Rattle.text_words.specs.Lines.{Line, Word}
 use Rattle.game_text.specs.Plain.{IsWordless, after_lines, lines_of, number_in, open_words}
 use Rattle.game_model.specs.Game.{GameData}

@@ -1,5 +1,5 @@
 -- The game that a reader builds is that of the text.
-use Rattle.std.proofs.Common.{◌≡◌, ℕ, ◌+◌, ◌-◌, ◌≤◌, List, ◌∷◌, ◌++◌, reverse, length, map, drop, ℤ, sym, ap, subst, ◌∙◌, arith, length-append}
+use Rattle.std.proofs.Common.{◌≡◌, ℕ, ◌-◌, ◌≤◌, List, ◌∷◌, ◌++◌, reverse, length, map, drop, ℤ, sym, ap, subst, ◌∙◌, arith, length-append}
 use Rattle.std.proofs.lemmas.List.{drop_at}
 use Rattle.text_words.specs.Lines.{Line}
 use Rattle.game_text.specs.Plain.{after_lines, lines_of}

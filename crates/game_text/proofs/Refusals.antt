@@ -1,5 +1,5 @@
 -- What a refusal of a text rules out.
-use Rattle.std.proofs.Common.{◌≡◌, ℕ, ◌+◌, ◌==◌, Bool, true, false, cond, ◌&&◌, List, [], ◌∷◌, ◌++◌, length, refl, sym, ap, subst, ◌∙◌, inl, inr}
+use Rattle.std.proofs.Common.{◌≡◌, ℕ, ◌==◌, Bool, true, false, cond, ◌&&◌, List, [], ◌∷◌, ◌++◌, length, sym, ap, subst, ◌∙◌, inl, inr}
 use Rattle.game_model.specs.Game.{GameData}
 use Rattle.game_text.specs.declared.fault.Kind.{Kind}
 use Rattle.game_text.specs.declared.fault.TextFault.{TextFault}
@@ -7,7 +7,7 @@ use Rattle.game_text.specs.declared.fault.TextFault.TheVariants.{Line, OutOfMemo
 use Rattle.game_text.specs.Text.{IsTextOf, IsWholeTextOf}
 use Rattle.game_text.specs.Plain.{IsWordless, completed, ends_open, is_end, lines_of, open_words, pieces_of}
 use Rattle.game_text.specs.Steps.{IsStopped}
-use Rattle.game_text.specs.Reading.{RefusesAlone, told, told_open}
+use Rattle.game_text.specs.Reading.{told, told_open}
 use Rattle.game_text.specs.Built.{EndsAt}
 use Rattle.game_text.specs.Answers.{IsGameIn, IsMore, IsRefused, IsRefusedAlone, IsRefusedWhole, IsNoFront, IsNoText, IsNotTrailing, told_at}
 use Rattle.game_text.proofs.Accept.{text_not_refused}

@@ -1,10 +1,9 @@
 -- Where the reader stands in a text, and how it goes on from there.
-use Rattle.std.proofs.Common.{◌≡◌, ℕ, zero, suc, ◌+◌, ◌-◌, ◌<◌, List, [], ◌∷◌, length, get_or, map, drop, Result, Ok, Err, refl, sym, ap, subst, ◌∙◌, arith}
+use Rattle.std.proofs.Common.{◌≡◌, ℕ, zero, suc, ◌+◌, ◌-◌, List, [], ◌∷◌, length, get_or, map, drop, Result, Ok, Err, refl, sym, ap, subst, ◌∙◌, arith}
 use Rattle.std.proofs.lemmas.List.{drop-map}
 use Rattle.std.specs.Result.{MatchResult}
 use Rattle.text_words.specs.Lines.{Line}
 use Rattle.text_words.specs.Fault.{Fails, Gives}
-use Rattle.text_words.specs.Forms.{◌>>=◌}
 use Rattle.text_words.specs.declared.fault.LineFault.{LineFault}
 use Rattle.text_words.specs.declared.fault.LineFault.TheVariants.{Refused, OutOfMemory}
 use Rattle.game_text.specs.declared.fault.Kind.{Kind}
@@ -13,7 +12,7 @@ use Rattle.game_text.specs.declared.fault.TextFault.{TextFault}
 use Rattle.game_text.specs.declared.fault.TextFault.TheVariants as texts
 use Rattle.game_text.specs.Fault.{at_line}
 use Rattle.game_text.specs.Plain.{after_lines, first_number, lines_of, number_in, pieces_of, worded_in, words_at, Worded}
-use Rattle.game_text.specs.Entries.{Entry, Version, Size, Total, Discount, First, entry_of, version_said, size_said, total_said, discount_said, first_said, shape_in}
+use Rattle.game_text.specs.Entries.{Entry, Version, Size, Total, Discount, entry_of, version_said, size_said, total_said, discount_said, first_said, shape_in}
 use Rattle.game_text.specs.Forms.{version_line}
 use Rattle.game_text.specs.Reading.{IsUnfinished}
 use Rattle.game_text.specs.Steps.{IsStopped, Reads, line_at}

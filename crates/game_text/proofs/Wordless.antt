@@ -1,8 +1,8 @@
 -- Bytes that have words, and bytes that have none.
-use Rattle.std.proofs.Common.{◌≡◌, ℕ, ◌+◌, List, [], ◌∷◌, map, refl, sym, ap, ◌∙◌}
+use Rattle.std.proofs.Common.{◌≡◌, ℕ, ◌+◌, List, [], ◌∷◌, map, refl, ap, ◌∙◌}
 use Rattle.std.specs.List.{join_with_byte}
 use Rattle.text_words.specs.Lines.{Line}
-use Rattle.game_text.specs.Plain.{IsWordless, lines_of, onto, open_words, pieces_of, plain_line, words_at, words_of, worded, worded_in, Worded}
+use Rattle.game_text.specs.Plain.{IsWordless, lines_of, onto, pieces_of, plain_line, words_at, words_of, worded, worded_in, Worded}
 
 words_onto : (m n : ℕ) (words : Line) (after : List ℕ) (ls ks : List Worded) → map words_at ls ≡ map words_at ks → map words_at (onto m words after ls) ≡ map words_at (onto n words after ks)
 words_onto m n [] after ls ks e = e

@@ -1,5 +1,5 @@
 -- Lines that are printed are read as they stand.
-use Rattle.std.proofs.Common.{◌≡◌, ℕ, zero, suc, ◌+◌, ◌-◌, ◌^◌, ◌<◌, ◌≤◌, Bool, true, false, cond, eqb, ltb, not, List, [], ◌∷◌, ◌++◌, length, get_or, map, take, ℤ, pos, negsuc, refl, sym, ap, subst, ◌∙◌, arith, append_assoc, append-nil}
+use Rattle.std.proofs.Common.{◌≡◌, ℕ, zero, suc, ◌+◌, ◌-◌, ◌^◌, ◌<◌, ◌≤◌, Bool, true, false, cond, eqb, ltb, List, [], ◌∷◌, ◌++◌, length, get_or, map, take, ℤ, pos, negsuc, refl, ap, ◌∙◌, arith, append_assoc}
 use Rattle.std.specs.Prelude.{codes}
 use Rattle.std.specs.Fmt.{decimal, signed_decimal}
 use Rattle.std.specs.List.{AllByRecursion, filter, join_with_byte, position_or_len, slice_split}
@@ -13,7 +13,7 @@ use Rattle.text_words.specs.Lines.{Line, Word, line_text}
 use Rattle.text_words.proofs.Numerals.{Small}
 use Rattle.text_words.proofs.Printed.{number_of-printed}
 use Rattle.text_words.proofs.Whole.{Lacks, lines_text, split_at, split_none}
-use Rattle.game_text.specs.Plain.{after_lines, before_comment, is_gap, last_piece, lines_of, number_of, pieces_of, plain_line, plain_word, printed_or, without_return, words_at, words_in, words_of, worded_in, Worded}
+use Rattle.game_text.specs.Plain.{after_lines, before_comment, is_gap, last_piece, pieces_of, plain_line, plain_word, printed_or, without_return, words_at, words_in, words_of, worded_in, Worded}
 use Rattle.game_text.proofs.NumberWords.{number_again}
 use Rattle.game_text.proofs.Parted.{is_feed, last_piece-line, worded_in-some}
 

@@ -1,5 +1,5 @@
 -- What the words and numbers of one line say, or the least kind of fault.
-use Rattle.std.specs.Prelude.{ℕ, ◌/◌, ◌%◌, ◌^◌, ◌==◌, nat_lt, max, ◌&&◌, ◌||◌, List, [], ◌∷◌, Option, Some, None, Result, Ok, Err, ℤ, pos, ◌+ℤ◌, ◌*ℤ◌, int_lt, int_le, unsigned_abs, if◌then◌else◌, codes}
+use Rattle.std.specs.Prelude.{ℕ, ◌/◌, ◌%◌, ◌==◌, nat_lt, max, ◌&&◌, ◌||◌, List, [], ◌∷◌, Option, Some, None, Result, Ok, Err, ℤ, pos, ◌+ℤ◌, ◌*ℤ◌, int_lt, int_le, unsigned_abs, if◌then◌else◌, codes}
 use Rattle.game_model.specs.Limits.{most_belief, most_discount, most_width}
 use Rattle.std.specs.Str.{bytes_eq}
 use Rattle.scaled_num.specs.Sums.{sum_of}

@@ -1,5 +1,5 @@
 -- What makes acceptance and refusal exact.
-use Rattle.std.specs.Prelude.{◌≡◌, ◌⊎◌, ℕ, List, [], ◌++◌}
+use Rattle.std.specs.Prelude.{◌≡◌, ◌⊎◌, ℕ, List, ◌++◌}
 use Rattle.text_words.specs.Lines.{Line}
 use Rattle.game_text.specs.Plain.{after_lines, lines_of}
 use Rattle.game_model.specs.Game.{GameData, IsGame}

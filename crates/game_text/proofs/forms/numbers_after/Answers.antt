@@ -1,8 +1,6 @@
-use Rattle.std.proofs.Common.{◌≡◌, sym, ap, subst, ◌∙◌, arith, rules}
+use Rattle.std.proofs.Common.{sym, subst, ◌∙◌, arith}
 use Rattle.std.proofs.lemmas.Bool.Decides.{nat_tests}
-use Rattle.std.specs.Prelude.{map}
 use Rattle.text_words.specs.Fault.{Gives}
-use Rattle.text_words.specs.Lines.{line_in}
 use Rattle.game_text.proofs.PlainLines.{after_count, after_name, after_none, after_some}
 use Rattle.game_text.proofs.forms.numbers_after.Goals as goal
 use Rattle.game_text.proofs.forms.numbers_after.Goals.{in_default-via-then-words-lt1, in_default-via-in-len1-up+then-eq+else-rest-count, in_default-via-in-len1-up+else-eq}

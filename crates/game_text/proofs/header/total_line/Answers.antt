@@ -1,12 +1,12 @@
-use Rattle.std.proofs.Common.{◌≡◌, ℕ, ℤ, List, [], ◌∷◌, sym, ap, ◌∙◌, Bor, rules}
+use Rattle.std.proofs.Common.{ℕ, List, ◌∷◌, sym, ap, ◌∙◌, Bor, rules}
 use mir.Syntax.{w128}
 use mir.Val.{SFits}
 use Rattle.std.proofs.lemmas.Int.{to_z-of_z}
 use Rattle.std.proofs.lemmas.Result.{err_from_is_err_and}
 use Rattle.text_words.specs.Lines.{line_in}
-use Rattle.game_text.specs.Entries.{Version, Size, Total, Discount, First, entry_of, size_said, total_said, discount_said, first_said}
+use Rattle.game_text.specs.Entries.{Size, Total, total_said}
 use Rattle.game_text.specs.Plain.{plain_line}
-use Rattle.game_text.proofs.Standing.{by_size, by_total, by_discount, by_first, line_moves, line_stops, missing_stops}
+use Rattle.game_text.proofs.Standing.{by_total, line_moves, line_stops, missing_stops}
 use Rattle.game_text.proofs.header.total_line.Goals as goal
 
 pub returns-in_err-words-clause-moves : goal.returns-in_err-words-clause-moves

@@ -1,4 +1,4 @@
-use Rattle.std.proofs.Common.{◌≡◌, ℕ, List, [], ◌∷◌, sym, ap, ◌∙◌, Bor}
+use Rattle.std.proofs.Common.{ℕ, List, [], sym, ap, ◌∙◌, Bor}
 use Rattle.std.proofs.lemmas.Result.{err_from_is_err_and}
 use Rattle.text_words.specs.Lines.{line_in}
 use Rattle.text_words.specs.declared.fault.LineFault.TheVariants.{Refused}

@@ -1,4 +1,4 @@
-use Rattle.std.proofs.Common.{◌≡◌, sym, ap, ◌∙◌, arith}
+use Rattle.std.proofs.Common.{sym, ap, ◌∙◌}
 use Rattle.game_text.specs.Plain.{last_of}
 use Rattle.game_text.proofs.Parted.{last_piece-line}
 use Rattle.game_text.proofs.lines.last_piece.Goals as goal

@@ -1,4 +1,4 @@
-use Rattle.std.proofs.Common.{◌≡◌, ◌+◌, ◌==◌, length, sym, ap, ◌∙◌, arith, rules, tests}
+use Rattle.std.proofs.Common.{◌==◌, arith, rules, tests}
 use Rattle.std.proofs.lemmas.Iterator.{YieldsList-from_slice}
 use Rattle.std.proofs.lemmas.Iterator.Consumers.{count_from_yields_List, YieldsList-at, YieldsList-from_filter}
 use Rattle.std.proofs.lemmas.List.Splits.{length-slice_split}

@@ -1,4 +1,4 @@
-use Rattle.std.proofs.Common.{◌==◌, ltb, length, ap, ◌∙◌, rules, tests}
+use Rattle.std.proofs.Common.{ltb, length, ◌∙◌, rules, tests}
 use Rattle.std.proofs.lemmas.Iterator.Consumers.{map_from_collect, YieldsList-at, YieldsList-from_filter}
 use Rattle.std.proofs.lemmas.Iterator.Splits.{YieldsList-from_slice_split}
 use Rattle.game_text.specs.Plain.{before_comment, is_gap, words_in}

@@ -1,9 +1,7 @@
-use Rattle.std.proofs.Common.{◌≡◌, ℕ, ℤ, List, [], ◌∷◌, ◌++◌, ◌∙◌, ap, sym, subst, codes, map, pos, rules, arith, append-nil, refl}
-use Rattle.std.specs.Prelude.{◌*ℤ◌}
+use Rattle.std.proofs.Common.{◌≡◌, ℕ, List, [], ◌++◌, ◌∙◌, ap, sym, subst, codes, rules}
 use Rattle.std.specs.String.{string_bytes}
-use Rattle.std.proofs.lemmas.Int.{ints}
-use Rattle.game_model.specs.Game.{GameData, IsBelief, IsGame}
-use Rattle.game_text.specs.Text.{IsWholeTextOf, header_text, rows_text, scaled, text_of}
+use Rattle.game_model.specs.Game.{GameData}
+use Rattle.game_text.specs.Text.{IsWholeTextOf, header_text, rows_text, text_of}
 use Rattle.game_text.proofs.Canonical.{canonical-texts}
 use Rattle.text_words.proofs.Grown.{behind}
 use Rattle.text_words.specs.Spelled.{line_of}

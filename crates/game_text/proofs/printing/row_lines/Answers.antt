@@ -3,7 +3,7 @@ use Rattle.std.specs.Int.{w128}
 use Rattle.std.specs.String.{string_bytes}
 use Rattle.std.proofs.lemmas.Result.{IfOk-weaker}
 use Rattle.game_model.specs.declared.parts.Landing.{Landing}
-use Rattle.game_model.specs.Game.{reward_at, row_at}
+use Rattle.game_model.specs.Game.{reward_at}
 use Rattle.game_text.specs.Text.{landing_line, step_line}
 use Rattle.text_words.proofs.Grown.{behind}
 use Rattle.game_text.proofs.printing.row_lines.Goals as goal

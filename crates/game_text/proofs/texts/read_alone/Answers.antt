@@ -1,6 +1,6 @@
-use Rattle.std.proofs.Common.{◌≡◌, ◌+◌, Bool, true, false, Result, Ok, Err, IfErr, sym, subst, ◌∙◌, arith}
+use Rattle.std.proofs.Common.{◌≡◌, ◌+◌, true, false, Result, Ok, Err, IfErr, sym, subst, ◌∙◌}
 use Rattle.std.proofs.lemmas.Result.{IfOk-weaker}
-use Rattle.game_text.specs.Answers.{IsNoText, IsRefusedAlone}
+use Rattle.game_text.specs.Answers.{IsRefusedAlone}
 use Rattle.game_text.specs.Plain.{is_end, open_words}
 use Rattle.game_text.proofs.Refusals.{game_piece, game_whole, no_text, refused_alone, refused_piece}
 use Rattle.game_text.proofs.texts.read_alone.Goals as goal
