@@ -76,7 +76,7 @@ too_long_not status long (inr open_now) = let e = sym long ∙ open_now in cc
 
 -- what `solve` wrote, behind the game's text
 pub answers-checked : AnyRest → SolvedIsChecked
-answers-checked rest trials gap input text status (inl (reads, l, s, t)) made few = absurd (too_long_not status s made)
-answers-checked rest trials gap input text status (inr (l, h)) made few =
-    let yes = solve-checked rest trials (gap_data gap) input text status h made in
-    (yes.0, inr (λ reads. few, yes.1))
+answers-checked rest trials gap input text status (inl (reads, l, s, t)) made = absurd (too_long_not status s made)
+answers-checked rest trials gap input text status (inr (l, h)) made =
+    let found = solve-checked rest trials (gap_data gap) input text status h made in
+    (found.0, found.1, λ front at few. let yes = found.2 front at in (yes.0, inr (λ reads. few, yes.1)))

@@ -74,6 +74,6 @@ floor-defined one laws = record { one = game-once laws IsBound (λ g game. bound
 pub floor-promises : SeedsEarn → TextsAreExact → KeepsFloor
 floor-promises earn laws input text (inl (line, kind, is, s, t)) = λ g at. absurd (laws.whole input g line kind at is)
 floor-promises earn laws input text (inr (h, at, (a, lower, floor, s, t))) = λ g is.
-    let same : h ≡ g = (laws.games input [] h g [] at is).0 in
+    let same : h ≡ g = laws.wholes input h g at is in
     subst (λ (k : GameData). (a : ℕ) × (lower : ℤ) × (text ≡ floor_text k a lower) × (a < k.shape.own_actions) × FloorEarns k a lower) same
-    (a, lower, t, floor.inside, earn (numbers h) (span h) a (floor.vectors a) (first_at h) lower (keeps-span h at.game) floor.inside (floor.seeds a floor.inside) floor.value)
+    (a, lower, t, floor.inside, earn (numbers h) (span h) a (floor.vectors a) (first_at h) lower (keeps-span h at.1.game) floor.inside (floor.seeds a floor.inside) floor.value)

@@ -3,7 +3,7 @@ use Rattle.std.proofs.Common.{ℕ, ◌≤◌, List, [], refl, sym, subst, inr}
 use Rattle.game_gen.specs.Generated.{game_of}
 use Rattle.game_model.specs.Game.{IsGame}
 use Rattle.game_text.specs.Laws.{CanonicalTexts}
-use Rattle.game_text.specs.Text.{IsTextOf, canonical_text}
+use Rattle.game_text.specs.Text.{IsWholeTextOf, canonical_text}
 use Rattle.osposg_cli.specs.declared.status.Status.TheVariants.{Done}
 use Rattle.osposg_cli.specs.Generate.{GenIsAnswered, GenIsDefined, KeepsGen}
 use Rattle.osposg_cli.proofs.Shown.{shown-once, shown-told}
@@ -20,5 +20,5 @@ gen-some number size = (Done, canonical_text (game_of number size), (refl, refl)
 pub gen-keeps : CanonicalTexts → ((number size : ℕ) → 1 ≤ size → size ≤ 16 → IsGame (game_of number size)) → KeepsGen
 gen-keeps canonical games number size text least most (done, t) =
     let g = game_of number size in
-    let here : IsTextOf g text [] = subst (λ (bytes : List ℕ). IsTextOf g bytes []) (sym t) (canonical g (games number size least most)) in
+    let here : IsWholeTextOf g text = subst (IsWholeTextOf g) (sym t) (canonical g (games number size least most)).whole in
     (here, inr (g, here, (refl, t)))

@@ -7,11 +7,10 @@ use Rattle.controller.specs.Certificates.{CertificateData}
 use Rattle.cert_text.specs.Laws.{Decided as CertDecided}
 use Rattle.game_model.specs.Game.{GameData, IsGame}
 use Rattle.game_text.specs.declared.fault.Kind.{Kind}
-use Rattle.game_text.specs.Laws.{Decided, DecidedAlone, RefusedOnce}
-use Rattle.game_text.specs.Reading.{Refuses, RefusesAlone}
-use Rattle.text_words.specs.Lines.{lines_of}
+use Rattle.game_text.specs.Laws.{Decided, DecidedAlone, FrontRefusedOnce, RefusedOnce}
+use Rattle.game_text.specs.Reading.{RefusesAlone, RefusesText}
 use Rattle.cert_text.specs.Reading.{RefusesCert}
-use Rattle.game_text.specs.Text.{IsTextOf}
+use Rattle.game_text.specs.Text.{IsTextOf, IsWholeTextOf}
 use Rattle.osposg_cli.specs.declared.status.Status.{Status}
 use Rattle.osposg_cli.specs.declared.status.Status.TheVariants.{CertRefused, GameRefused}
 use Rattle.osposg_cli.specs.Defined.{HasText, IsAnswered, IsOne, IsTold}
@@ -24,12 +23,10 @@ game_refusal-once once input status other text more (line, kind, is, s, t) (numb
     let same = once input line number kind next is at in
     (s ∙ sym r, t ∙ ap (λ (i : ℕ). game_refused i kind) same.0 ∙ ap (λ (k : Kind). game_refused number k) same.1 ∙ sym m)
 
-front-alone : (input : List ℕ) (status : Status) (text : List ℕ) → RefusesFront input status text → RefusesGame input status text
-front-alone input status text (line, kind, is, s, t) = (line, kind, inl is, s, t)
-
-front_refusal-once : RefusedOnce → (input : List ℕ) → IsOne (RefusesFront input)
-front_refusal-once once input status other text more h k =
-    game_refusal-once once input status other text more (front-alone input status text h) (front-alone input other more k)
+front_refusal-once : FrontRefusedOnce → (input : List ℕ) → IsOne (RefusesFront input)
+front_refusal-once once input status other text more (line, kind, is, s, t) (number, next, at, r, m) =
+    let same = once input line number kind next is at in
+    (s ∙ sym r, t ∙ ap (λ (i : ℕ). game_refused i kind) same.0 ∙ ap (λ (k : Kind). game_refused number k) same.1 ∙ sym m)
 
 rest_refusal-once : CertRefusedOnce → (g : GameData) (rest : List ℕ) → IsOne (RefusesRest g rest)
 rest_refusal-once once g rest status other text more (line, kind, is, s, t) (number, next, at, r, m) =
@@ -42,8 +39,8 @@ game-once laws A once input status other text more (inl h) (inl k) = game_refusa
 game-once laws A once input status other text more (inl (line, kind, is, s, t)) (inr (g, at, k)) = absurd (laws.whole input g line kind at is)
 game-once laws A once input status other text more (inr (g, is, h)) (inl (line, kind, at, s, t)) = absurd (laws.whole input g line kind is at)
 game-once laws A once input status other text more (inr (g, is, h)) (inr (e, at, k)) =
-    let same = (laws.games input [] g e [] is at).0 in
-    once e at.game status other text more (subst (λ (d : GameData). A d status text) same h) k
+    let same = laws.wholes input g e is at in
+    once e at.1.game status other text more (subst (λ (d : GameData). A d status text) same h) k
 
 pub game-told : (A : GameData → Status → List ℕ → Type 0) → ((g : GameData) → IsTold (A g)) → (input : List ℕ) → IsTold (AnswersGame A input)
 game-told A told input status text (inl (line, kind, is, s, t)) = subst HasText (sym s) tt
@@ -69,7 +66,7 @@ front-falls : TextsAreExact → (g : GameData) (input rest : List ℕ) (status :
 front-falls laws g input rest status text is (line, kind, at, s, t) = laws.front input rest g line kind is at
 
 refusals-once : TextsAreExact → (input : List ℕ) → IsOne (RefusesBoth input)
-refusals-once laws input status other text more (inl h) (inl k) = front_refusal-once laws.refused input status other text more h k
+refusals-once laws input status other text more (inl h) (inl k) = front_refusal-once laws.front_refused input status other text more h k
 refusals-once laws input status other text more (inl h) (inr (g, rest, at, k)) = absurd (front-falls laws g input rest status text at h)
 refusals-once laws input status other text more (inr (g, rest, is, h)) (inl k) = absurd (front-falls laws g input rest other more is k)
 refusals-once laws input status other text more (inr (g, rest, is, h)) (inr (e, end, at, k)) =
@@ -99,8 +96,8 @@ both-told A told input status text (inr (g, k, is, h)) = told g k status text h
 pub game-some : DecidedAlone → (A : GameData → Status → List ℕ → Type 0) → ((g : GameData) → IsGame g → IsAnswered (A g)) → (input : List ℕ) → IsAnswered (AnswersGame A input)
 game-some decided A some input = found (decided input)
   where
-    found : ((g : GameData) × IsTextOf g input []) ⊎ ((number : ℕ) × (kind : Kind) × RefusesAlone input number kind) → IsAnswered (AnswersGame A input)
-    found (inl (g, is)) = let answer = some g is.game in (answer.0, answer.1, inr (g, is, answer.2))
+    found : ((g : GameData) × IsWholeTextOf g input) ⊎ ((number : ℕ) × (kind : Kind) × RefusesAlone input number kind) → IsAnswered (AnswersGame A input)
+    found (inl (g, is)) = let answer = some g is.1.game in (answer.0, answer.1, inr (g, is, answer.2))
     found (inr (number, kind, refused)) = (GameRefused, game_refused number kind, inl (number, kind, refused, refl, refl))
 
 pub both-some : Decided → CertDecided → (A : GameData → CertificateData → Status → List ℕ → Type 0) →
@@ -112,6 +109,6 @@ both-some games certificates A some input = front (games input)
     behind g rest is (inl (k, for)) = let answer = some g k rest is.game for in (answer.0, answer.1, inr (g, k, (rest, is, for), answer.2))
     behind g rest is (inr (number, kind, refused)) = (CertRefused, cert_refused number kind, inl (inr (g, rest, is, (number, kind, refused, refl, refl))))
 
-    front : ((g : GameData) × (rest : List ℕ) × IsTextOf g input rest) ⊎ ((number : ℕ) × (kind : Kind) × Refuses (lines_of input) number kind) → IsAnswered (AnswersBoth A input)
+    front : ((g : GameData) × (rest : List ℕ) × IsTextOf g input rest) ⊎ ((number : ℕ) × (kind : Kind) × RefusesText input number kind) → IsAnswered (AnswersBoth A input)
     front (inl (g, rest, is)) = behind g rest is (certificates g rest is.game)
     front (inr (number, kind, refused)) = (GameRefused, game_refused number kind, inl (inl (number, kind, refused, refl, refl)))

@@ -2,7 +2,7 @@
 use Rattle.std.proofs.Common.{◌≡◌, ℕ, List, [], refl, sym, ◌∙◌, subst, inl, inr}
 use Rattle.game_model.specs.Game.{GameData, IsGame}
 use Rattle.game_text.specs.Laws.{CanonicalTexts, DecidedAlone}
-use Rattle.game_text.specs.Text.{IsTextOf, canonical_text}
+use Rattle.game_text.specs.Text.{IsWholeTextOf, canonical_text}
 use Rattle.osposg_cli.specs.declared.status.Status.TheVariants.{Done}
 use Rattle.osposg_cli.specs.Defined.{HasText, IsAnswered, IsDefined, IsOne, IsTold}
 use Rattle.osposg_cli.specs.Inputs.{TextsAreExact}
@@ -27,6 +27,6 @@ show-defined laws = record { one = game-once laws IsShown (λ g game. shown-once
 pub show-keeps : CanonicalTexts → TextsAreExact → KeepsShow
 show-keeps canonical laws input text (inl (line, kind, is, s, t)) = λ g at. absurd (laws.whole input g line kind at is)
 show-keeps canonical laws input text (inr (h, at, (s, t))) = λ g is.
-    let same : h ≡ g = (laws.games input [] h g [] at is).0 in
-    let here : IsTextOf h text [] = subst (λ (bytes : List ℕ). IsTextOf h bytes []) (sym t) (canonical h at.game) in
-    (subst (λ (k : GameData). IsTextOf k text []) same here, inr (h, here, (refl, t)))
+    let same : h ≡ g = laws.wholes input h g at is in
+    let here : IsWholeTextOf h text = subst (IsWholeTextOf h) (sym t) (canonical h at.1.game).whole in
+    (subst (λ (k : GameData). IsWholeTextOf k text) same here, inr (h, here, (refl, t)))

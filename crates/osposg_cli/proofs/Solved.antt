@@ -7,7 +7,7 @@ use Rattle.controller.specs.Certificates.{CertificateData, Closed, Ending, Fract
 use Rattle.controller.specs.Export.{ExportsAreOne, IsExport}
 use Rattle.game_model.specs.Game.{GameData, IsGame}
 use Rattle.game_text.specs.Laws.{AnyRest}
-use Rattle.game_text.specs.Text.{IsTextOf}
+use Rattle.game_text.specs.Text.{IsTextOf, IsWholeTextOf}
 use Rattle.history_model.specs.Halves.{LowerHolds, UpperHolds}
 use Rattle.hsvi_trial.specs.Data.{solved_parts}
 use Rattle.hsvi_trial.specs.Laws.{OneRunFor}
@@ -66,17 +66,21 @@ solve-keeps low high trials gap input text status (inr (g, is, p)) made = record
   certificate = p.certificate;
   spells_game = is;
   spells_certificate = (p.made.stands.fits, p.same);
-  proves = proved low high g p.certificate is.game p.made.stands;
+  proves = proved low high g p.certificate is.1.game p.made.stands;
   tolerance = ap (λ (k : CertificateData). k.gap) p.made.exported.same;
   closed = subst (λ (s : Status). (s ≡ Done) ↔ (p.certificate.outcome ≡ Closed)) (sym p.status_is) (closed_at p.certificate.outcome);
 }
 
--- ---- and behind the game's text `check` says yes to it
+-- ---- and behind a text of the game `check` says yes to it
 pub solve-checked : AnyRest → (trials : ℕ) (gap : FractionData) (input text : List ℕ) (status : Status) → AnswersSolve trials gap input status text →
-    MakesCertificate status → (yes : List ℕ) × AnswersCheck (input ++ text) Done yes
+    MakesCertificate status → (g : GameData) × IsWholeTextOf g input × ((front : List ℕ) → IsTextOf g front [] → (yes : List ℕ) × AnswersCheck (front ++ text) Done yes)
 solve-checked rest trials gap input text status (inl (line, kind, is, s, t)) made = absurd (not_refused status s made)
 solve-checked rest trials gap input text status (inr (g, is, p)) made =
     let short = p.made.stands.fits.short in
-    let yes = yes-some p.certificate short.0 short.1 short.2 in
-    let front : IsTextOf g (input ++ text) text = rest g input [] text (subst (λ (bytes : List ℕ). IsTextOf g bytes []) (sym (append-nil input)) is) in
-    (yes.0, inr (g, p.certificate, (text, front, (p.made.stands.fits, p.same)), inl (p.made.stands, refl, yes.1)))
+    let yes = yes-some p.certificate short.0 short.1 short.2 in (
+      g,
+      is,
+      λ front at.
+          (let here : IsTextOf g (front ++ text) text = rest g front [] text (subst (λ (bytes : List ℕ). IsTextOf g bytes []) (sym (append-nil front)) at) in
+          (yes.0, inr (g, p.certificate, (text, here, (p.made.stands.fits, p.same)), inl (p.made.stands, refl, yes.1)))),
+    )

@@ -6,6 +6,8 @@ use Rattle.osposg_cli.specs.declared.status.Status.TheVariants.{Done, No, Open, 
 use Rattle.osposg_cli.specs.declared.words.Command.{Command}
 use Rattle.osposg_cli.specs.declared.words.Gap.{Gap}
 use Rattle.osposg_cli.specs.declared.words.Command.TheVariants.{Check, Floor, Gen, Show, Solve, Summary}
+use Rattle.game_model.specs.Game.{GameData}
+use Rattle.game_text.specs.Text.{IsTextOf, IsWholeTextOf}
 use Rattle.osposg_cli.specs.Check.{AnswersCheck}
 use Rattle.osposg_cli.specs.Defined.{AreAnswered, HasText, IsDefined, IsOne}
 use Rattle.osposg_cli.specs.Floor.{AnswersFloor}
@@ -79,11 +81,13 @@ AsksNoSearch command = ⊤
 abbrev pub InputsAreAnswered : Type 0
 InputsAreAnswered = (command : Option Command) → AsksNoSearch command → AreAnswered (Answers command)
 
--- to an input and the certificate text that `solve` wrote for it, at once after it, `check` answers yes
+-- to a text of the game of an input, to its `end` line, and the certificate text that `solve` wrote for it, at once after it,
+-- `check` answers yes
 abbrev pub SolvedIsChecked : Type 0
 SolvedIsChecked =
     (trials : ℕ) (gap : Gap) (input text : List ℕ) (status : Status) → Answers (Some (Solve trials gap)) input status text →
-    MakesCertificate status → length (input ++ text) ≤ most_input → (yes : List ℕ) × Answers (Some Check) (input ++ text) Done yes
+    MakesCertificate status → (g : GameData) × IsWholeTextOf g input × ((front : List ℕ) → IsTextOf g front [] → length (front ++ text) ≤ most_input →
+    (yes : List ℕ) × Answers (Some Check) (front ++ text) Done yes)
 
 -- how a run ends before there is a text
 abbrev pub IsEarly : Option Command → Option (List ℕ) → Option (List ℕ) → Status → Type 0

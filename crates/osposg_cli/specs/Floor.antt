@@ -3,7 +3,7 @@ use Rattle.std.specs.Prelude.{ℕ, ◌<◌, ◌≡◌, ℤ, pos, ◌*ℤ◌, ◌
 use Rattle.game_model.specs.Game.{GameData, first_at, numbers, span, unit}
 use Rattle.game_model.specs.Seeds.{FixedActionEarns, IsSeed}
 use Rattle.game_model.specs.Numbers.{product}
-use Rattle.game_text.specs.Text.{IsTextOf}
+use Rattle.game_text.specs.Text.{IsWholeTextOf}
 use Rattle.osposg_cli.specs.declared.status.Status.{Status}
 use Rattle.osposg_cli.specs.declared.status.Status.TheVariants.{Done}
 use Rattle.osposg_cli.specs.Inputs.{AnswersGame}
@@ -46,7 +46,7 @@ FloorEarns g a lower = FixedActionEarns (numbers g) (first_at g) (span g) a lowe
 -- What the text of `floor` promises of the game that the input spells: it is of an own action that earns the printed bound.
 abbrev pub FloorPromises : List ℕ → List ℕ → Type 0
 FloorPromises input text =
-    (g : GameData) → IsTextOf g input [] → (a : ℕ) × (lower : ℤ) × (text ≡ floor_text g a lower) × (a < g.shape.own_actions) × FloorEarns g a lower
+    (g : GameData) → IsWholeTextOf g input → (a : ℕ) × (lower : ℤ) × (text ≡ floor_text g a lower) × (a < g.shape.own_actions) × FloorEarns g a lower
 
 -- an answer keeps this promise
 abbrev pub KeepsFloor : Type 0

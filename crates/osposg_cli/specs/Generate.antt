@@ -1,7 +1,7 @@
 -- What `gen` answers, and what that promises.
-use Rattle.std.specs.Prelude.{ℕ, ◌≤◌, List, []}
+use Rattle.std.specs.Prelude.{ℕ, ◌≤◌, List}
 use Rattle.game_gen.specs.Generated.{game_of}
-use Rattle.game_text.specs.Text.{IsTextOf}
+use Rattle.game_text.specs.Text.{IsWholeTextOf}
 use Rattle.osposg_cli.specs.declared.status.Status.{Status}
 use Rattle.osposg_cli.specs.declared.status.Status.TheVariants.{Done}
 use Rattle.osposg_cli.specs.Defined.{IsAnswered, IsDefined}
@@ -21,7 +21,7 @@ GenIsAnswered = (number size : ℕ) → IsAnswered (AnswersGen number size)
 
 -- What the text of `gen` promises: it spells the game of the number and the size, and is what `show` writes of itself.
 abbrev pub GenPromises : ℕ → ℕ → List ℕ → Type 0
-GenPromises number size text = IsTextOf (game_of number size) text [] × AnswersShow text Done text
+GenPromises number size text = IsWholeTextOf (game_of number size) text × AnswersShow text Done text
 
 -- an answer keeps this promise
 abbrev pub KeepsGen : Type 0

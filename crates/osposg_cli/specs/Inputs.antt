@@ -1,5 +1,5 @@
 -- What commands share: an input that is a game alone, or a game and a certificate at once after it, and how it is refused.
-use Rattle.std.specs.Prelude.{◌≡◌, ◌⊎◌, ℕ, ◌^◌, List, []}
+use Rattle.std.specs.Prelude.{◌≡◌, ◌⊎◌, ℕ, ◌^◌, List}
 use Rattle.cert_text.specs.declared.fault.CertKind.{CertKind}
 use Rattle.cert_text.specs.Answers.{IsTextFor}
 use Rattle.cert_text.specs.Reading.{RefusesCert}
@@ -7,13 +7,12 @@ use Rattle.cert_text.specs.Laws.{AcceptedIsNotRefused, OneCertificate, RefusedOn
 use Rattle.controller.specs.Certificates.{CertificateData}
 use Rattle.game_model.specs.Game.{GameData}
 use Rattle.game_text.specs.declared.fault.Kind.{Kind}
-use Rattle.game_text.specs.Laws.{RefusedOnce, TextsAreGames, TextsAreNotRefused, WholeTextsAreNotRefused}
-use Rattle.game_text.specs.Reading.{Refuses, RefusesAlone}
-use Rattle.game_text.specs.Text.{IsTextOf}
+use Rattle.game_text.specs.Laws.{FrontRefusedOnce, RefusedOnce, TextsAreGames, TextsAreNotRefused, WholeTextsAreGames, WholeTextsAreNotRefused}
+use Rattle.game_text.specs.Reading.{RefusesAlone, RefusesText}
+use Rattle.game_text.specs.Text.{IsTextOf, IsWholeTextOf}
 use Rattle.osposg_cli.specs.declared.status.Status.{Status}
 use Rattle.osposg_cli.specs.declared.status.Status.TheVariants.{CertRefused, GameRefused}
 use Rattle.osposg_cli.specs.Refusals.{cert_refused, game_refused}
-use Rattle.text_words.specs.Lines.{lines_of}
 
 -- the most bytes of an input
 abbrev pub most_input : ℕ
@@ -25,7 +24,7 @@ RefusesGame input status text = (line : ℕ) × (kind : Kind) × RefusesAlone in
 
 -- the input does not begin with a text of a game
 abbrev pub RefusesFront : List ℕ → Status → List ℕ → Type 0
-RefusesFront input status text = (line : ℕ) × (kind : Kind) × Refuses (lines_of input) line kind × (status ≡ GameRefused) × (text ≡ game_refused line kind)
+RefusesFront input status text = (line : ℕ) × (kind : Kind) × RefusesText input line kind × (status ≡ GameRefused) × (text ≡ game_refused line kind)
 
 -- after a game's text there is no text of a certificate for it
 abbrev pub RefusesRest : GameData → List ℕ → Status → List ℕ → Type 0
@@ -41,7 +40,7 @@ RefusesBoth input status text = RefusesFront input status text ⊎ ((g : GameDat
 
 -- what a command answers to a game alone, by what it answers to the game
 abbrev pub AnswersGame : (GameData → Status → List ℕ → Type 0) → List ℕ → Status → List ℕ → Type 0
-AnswersGame IsAnswer input status text = RefusesGame input status text ⊎ ((g : GameData) × IsTextOf g input [] × IsAnswer g status text)
+AnswersGame IsAnswer input status text = RefusesGame input status text ⊎ ((g : GameData) × IsWholeTextOf g input × IsAnswer g status text)
 
 -- what a command answers to a game and a certificate, by what it answers to both
 abbrev pub AnswersBoth : (GameData → CertificateData → Status → List ℕ → Type 0) → List ℕ → Status → List ℕ → Type 0
@@ -51,7 +50,9 @@ AnswersBoth IsAnswer input status text =
 -- an input is read in one way: it is of one game and one certificate, or is refused once, and never both
 pub record TextsAreExact : Type 0 where
   pub games : TextsAreGames
+  pub wholes : WholeTextsAreGames
   pub refused : RefusedOnce
+  pub front_refused : FrontRefusedOnce
   pub front : TextsAreNotRefused
   pub whole : WholeTextsAreNotRefused
   pub certificates : OneCertificate

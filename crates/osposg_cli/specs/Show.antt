@@ -1,7 +1,7 @@
 -- What `show` answers, and what that promises.
-use Rattle.std.specs.Prelude.{◌≡◌, ℕ, List, []}
+use Rattle.std.specs.Prelude.{◌≡◌, ℕ, List}
 use Rattle.game_model.specs.Game.{GameData}
-use Rattle.game_text.specs.Text.{IsTextOf, canonical_text}
+use Rattle.game_text.specs.Text.{IsWholeTextOf, canonical_text}
 use Rattle.osposg_cli.specs.declared.status.Status.{Status}
 use Rattle.osposg_cli.specs.declared.status.Status.TheVariants.{Done}
 use Rattle.osposg_cli.specs.Inputs.{AnswersGame}
@@ -16,7 +16,7 @@ AnswersShow input status text = AnswersGame IsShown input status text
 
 -- What the text of `show` promises of the game that the input spells: it spells the same game, and is shown as it is.
 abbrev pub ShowPromises : List ℕ → List ℕ → Type 0
-ShowPromises input text = (g : GameData) → IsTextOf g input [] → IsTextOf g text [] × AnswersShow text Done text
+ShowPromises input text = (g : GameData) → IsWholeTextOf g input → IsWholeTextOf g text × AnswersShow text Done text
 
 -- an answer keeps this promise
 abbrev pub KeepsShow : Type 0

@@ -1,11 +1,11 @@
 -- What `solve` answers, and what that promises.
-use Rattle.std.specs.Prelude.{◌≡◌, ◌⊎◌, ◌↔◌, ℕ, List, []}
+use Rattle.std.specs.Prelude.{◌≡◌, ◌⊎◌, ◌↔◌, ℕ, List}
 use Rattle.cert_text.specs.Answers.{IsTextFor}
 use Rattle.cert_text.specs.Text.{certificate_text}
 use Rattle.controller.specs.Certificates.{CertificateData, CertificateStands, Closed, Ending, FractionData, Full, Trials}
 use Rattle.controller.specs.Export.{IsExport}
 use Rattle.game_model.specs.Game.{GameData}
-use Rattle.game_text.specs.Text.{IsTextOf}
+use Rattle.game_text.specs.Text.{IsWholeTextOf}
 use Rattle.hsvi_trial.specs.Data.{solved_parts}
 use Rattle.hsvi_trial.specs.Run.{IsSolveRun, SolvedData}
 use Rattle.osposg_cli.specs.declared.status.Status.{Status}
@@ -51,7 +51,7 @@ MakesCertificate status = (status ≡ Done) ⊎ (status ≡ Open)
 pub record SolvePromises (gap : FractionData) (status : Status) (input text : List ℕ) : Type 0 where
   pub game : GameData
   pub certificate : CertificateData
-  pub spells_game : IsTextOf game input []
+  pub spells_game : IsWholeTextOf game input
   pub spells_certificate : IsTextFor game certificate text
   pub proves : Proves game certificate
   pub tolerance : certificate.gap ≡ gap

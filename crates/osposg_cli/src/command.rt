@@ -104,7 +104,7 @@ pub fn run<I: Source, O: Sink>(
 }
 
 /// A law: the answer of each command is defined, so an input has one answer at most; without a search it has one. To
-/// what `solve` wrote for a game, behind the game's text, `check` answers yes.
+/// what `solve` wrote for a game, behind a text of the game to its `end` line, `check` answers yes.
 pub fn law_answers()
     ensures work { WorkIsDefined }
     ensures one { AnswersAreOne }

@@ -1,9 +1,9 @@
 //! What commands share in reading their input: a game alone, or a game and a certificate at once after it.
 ghost use Rattle.cert_text.specs.Answers.{IsTextFor};
-ghost use Rattle.game_text.specs.Text.{IsTextOf};
+ghost use Rattle.game_text.specs.Text.{IsWholeTextOf};
 ghost use Rattle.osposg_cli.specs.Inputs.{IsTextOfBoth, RefusesBoth, RefusesGame, RefusesRest, TextsAreExact};
 ghost use Rattle.osposg_cli.specs.Inputs.{most_input};
-ghost use Rattle.std.specs.Prelude.{IfOk, MatchResult, [], length, ◌≤◌};
+ghost use Rattle.std.specs.Prelude.{IfOk, MatchResult, length, ◌≤◌};
 
 use crate::answer::Given;
 use crate::refusals::{cert_refused, game_refused};
@@ -20,7 +20,7 @@ pub const MOST_INPUT: usize = 1 << 26;
 pub fn game_alone(alloc: Global, bytes: &[u8]) -> Result<Given<Game>, AllocError>
     requires { length bytes.now ≤ most_input }
     ensures { IfOk result (λ given. MatchResult given
-        (λ game. IsTextOf game bytes.now [])
+        (λ game. IsWholeTextOf game bytes.now)
         (λ refusal. RefusesGame bytes.now refusal.status refusal.text.items)) }
 {
     match game_text::read_alone(alloc, bytes) {
@@ -73,7 +73,9 @@ pub fn law_texts()
     ensures { TextsAreExact }
 {
     game_text::law_games();
+    game_text::law_whole_games();
     game_text::law_refused_once();
+    game_text::law_front_refused_once();
     game_text::law_not_refused();
     game_text::law_whole_not_refused();
     cert_text::law_one();

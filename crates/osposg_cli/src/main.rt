@@ -12,6 +12,8 @@ mod floor;
 mod gen_tests;
 mod generate;
 mod inputs;
+#[cfg(test)]
+mod lenient_tests;
 mod refusals;
 mod show;
 mod solve;

@@ -199,7 +199,6 @@ fn refused_games_name_the_first_line_and_its_least_kind(rt: HostRuntime) -> Resu
         (2, "size 1 1 1", "game refused: line 2 kind 2\n"),
         (2, "size 17 1 1 1", "game refused: line 2 kind 4\n"),
         (3, "total 1x", "game refused: line 3 kind 3\n"),
-        (3, "total 01", "game refused: line 3 kind 3\n"),
         (3, "total 0", "game refused: line 3 kind 4\n"),
         (3, "total 2", "game refused: line 8 kind 6\n"),
         (4, "discount 1 1", "game refused: line 4 kind 4\n"),
@@ -221,14 +220,11 @@ fn refused_games_name_the_first_line_and_its_least_kind(rt: HostRuntime) -> Resu
 fn refused_games_of_other_lengths_and_widths(rt: HostRuntime) -> Result<(), Fail> {
     let alloc = rt.alloc();
     let whole = text_of(alloc, &FIVE_EACH_TIME)?;
-    let twice = text_of(alloc, &[whole.as_str(), whole.as_str()])?;
+    let twice = joined(alloc, &whole, &whole)?;
     let cut = text_of(alloc, &FIVE_EACH_TIME[..7])?;
-    let unended =
-        "osposg 1\nsize 1 1 1 1\ntotal 1\ndiscount 0 1\nfirst 1\nstep 0 0 0 5\nout 0 0 1\nend";
     let refused = [
         ("", "game refused: line 1 kind 9\n"),
         (cut.as_str(), "game refused: line 8 kind 9\n"),
-        (unended, "game refused: line 8 kind 9\n"),
         (twice.as_str(), "game refused: line 9 kind 10\n"),
         (
             "osposg 1\nsize 1 1 1 1\ntotal 2\ndiscount 0 1\nfirst 1\nstep 0 0 0 5\nout 0 0 1\nout 0 0 1\nend\n",
