@@ -1,10 +1,12 @@
 -- An input has one answer, whatever the command.
-use Rattle.std.proofs.Common.{◌≡◌, ◌⊎◌, ℕ, ◌<◌, ◌≤◌, [], length, Some, None, Bool, true, false, refl, sym, ◌∙◌, arith, inl, inr}
+use Rattle.std.proofs.Common.{◌≡◌, ◌⊎◌, ℕ, ◌<◌, ◌≤◌, List, [], length, Some, None, Bool, true, false, refl, sym, ◌∙◌, arith, inl, inr}
+use Rattle.std.specs.Option.{option_map}
 use Rattle.osposg_cli.specs.declared.words.Command.{Command}
-use Rattle.osposg_cli.specs.declared.words.Command.TheVariants.{Check, Floor, Gen, Show, Solve, Summary}
-use Rattle.osposg_cli.specs.Answer.{Answers, AnswersAreOne, AsksNoSearch, InputsAreAnswered, IsWork, ReadsInput, SolvedIsChecked, WorkIsDefined}
+use Rattle.osposg_cli.specs.declared.words.Command.TheVariants.{Check, Close, Floor, Gen, Show, Solve, Summary}
+use Rattle.osposg_cli.specs.Answer.{Answers, AnswersAreOne, AsksNoSearch, HasOneAnswer, InputsAreAnswered, IsWork, ReadsInput, SolvedIsChecked, WorkIsDefined}
 use Rattle.osposg_cli.specs.Check.{AnswersCheck}
-use Rattle.osposg_cli.specs.Defined.{AreAnswered, IsAnswered, IsDefined}
+use Rattle.osposg_cli.specs.Close.{CloseIsTold}
+use Rattle.osposg_cli.specs.Defined.{AreAnswered, IsAnswered, IsDefined, IsOne, IsTold}
 use Rattle.osposg_cli.specs.Floor.{AnswersFloor}
 use Rattle.osposg_cli.specs.Generate.{GenIsAnswered, GenIsDefined}
 use Rattle.osposg_cli.specs.Inputs.{most_input}
@@ -20,18 +22,32 @@ use Rattle.game_text.specs.Laws.{AnyRest}
 use Rattle.std.proofs.lemmas.Bool.{cases_order}
 
 -- by command
-pub work-defined : IsDefined AnswersFloor → SolveIsDefined → IsDefined AnswersCheck → IsDefined AnswersShow → GenIsDefined → SummaryIsDefined → WorkIsDefined
-work-defined floor solve check show gen summary Floor = floor
-work-defined floor solve check show gen summary (Solve trials gap) = solve trials (gap_data gap)
-work-defined floor solve check show gen summary Check = check
-work-defined floor solve check show gen summary Show = show
-work-defined floor solve check show gen summary (Gen number size) = gen number size
-work-defined floor solve check show gen summary (Summary number size trials gap) = summary number size trials (gap_data gap)
+pub work-defined : IsDefined AnswersFloor → SolveIsDefined → IsDefined AnswersCheck → CloseIsTold → IsDefined AnswersShow → GenIsDefined → SummaryIsDefined → WorkIsDefined
+work-defined floor solve check close show gen summary = record { one = once; told = told }
+  where
+    once : (command : Command) → HasOneAnswer (Some command) → (input : List ℕ) → IsOne (IsWork command input)
+    once Floor one = floor.one
+    once (Solve trials gap) one = (solve trials (gap_data gap)).one
+    once Check one = check.one
+    once (Close rounds gap) one = absurd one
+    once Show one = show.one
+    once (Gen number size) one = (gen number size).one
+    once (Summary number size trials gap) one = (summary number size trials (gap_data gap)).one
+
+    told : (command : Command) (input : List ℕ) → IsTold (IsWork command input)
+    told Floor = floor.told
+    told (Solve trials gap) = (solve trials (gap_data gap)).told
+    told Check = check.told
+    told (Close rounds gap) = close rounds (option_map gap_data gap)
+    told Show = show.told
+    told (Gen number size) = (gen number size).told
+    told (Summary number size trials gap) = (summary number size trials (gap_data gap)).told
 
 pub work-some : AreAnswered AnswersFloor → AreAnswered AnswersCheck → AreAnswered AnswersShow → GenIsAnswered → (command : Command) → AsksNoSearch (Some command) → AreAnswered (IsWork command)
 work-some floor check show gen Floor none = floor
 work-some floor check show gen (Solve trials gap) none = absurd none
 work-some floor check show gen Check none = check
+work-some floor check show gen (Close rounds gap) none = absurd none
 work-some floor check show gen Show none = show
 work-some floor check show gen (Gen number size) none = λ input. gen number size
 work-some floor check show gen (Summary number size trials gap) none = absurd none
@@ -41,11 +57,11 @@ pub too-long : (n : ℕ) → most_input < n → n ≤ most_input → ⊥
 too-long n l k = omega arith
 
 pub answers-once : WorkIsDefined → AnswersAreOne
-answers-once work None input status other text more (s, t) (r, m) = (s ∙ sym r, t ∙ sym m)
-answers-once work (Some command) input status other text more (inl (reads, l, s, t)) (inl (read, k, r, m)) = (s ∙ sym r, t ∙ sym m)
-answers-once work (Some command) input status other text more (inl (reads, l, s, t)) (inr (k, h)) = absurd (too-long (length input) l (k reads))
-answers-once work (Some command) input status other text more (inr (l, h)) (inl (read, k, r, m)) = absurd (too-long (length input) k (l read))
-answers-once work (Some command) input status other text more (inr (l, h)) (inr (k, w)) = (work command).one input status other text more h w
+answers-once work None one input status other text more (s, t) (r, m) = (s ∙ sym r, t ∙ sym m)
+answers-once work (Some command) one input status other text more (inl (reads, l, s, t)) (inl (read, k, r, m)) = (s ∙ sym r, t ∙ sym m)
+answers-once work (Some command) one input status other text more (inl (reads, l, s, t)) (inr (k, h)) = absurd (too-long (length input) l (k reads))
+answers-once work (Some command) one input status other text more (inr (l, h)) (inl (read, k, r, m)) = absurd (too-long (length input) k (l read))
+answers-once work (Some command) one input status other text more (inr (l, h)) (inr (k, w)) = work.one command one input status other text more h w
 
 few-or-many : (n : ℕ) → (n ≤ most_input) ⊎ (most_input < n)
 few-or-many n = elim (cases_order n most_input) [ inl e ↦ inl (omega (arith, e)) | inr l ↦ elim l [ inl a ↦ inl (omega (arith, a)) | inr b ↦ inr b ] ]

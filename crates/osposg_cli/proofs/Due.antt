@@ -2,14 +2,16 @@
 use Rattle.std.proofs.Common.{◌≡◌, ℕ, ◌<◌, ◌≤◌, List, [], length, Option, Some, None, Result, Ok, Err, refl, sym, ap, ◌∙◌, subst, inl, inr}
 use Rattle.std.proofs.lemmas.Option.{none-some}
 use Rattle.std.proofs.lemmas.List.{append-nil}
+use Rattle.std.specs.Option.{option_map}
 use Rattle.std.specs.Result.{MatchResult, IfOk, IsErrAnd}
 use Rattle.std.specs.Prelude.{false, IfSome, ⊤}
 use Rattle.hsvi_io.specs.Bytes.{GaveAll, Wrote}
 use Rattle.osposg_cli.specs.declared.status.Status.{Status}
 use Rattle.osposg_cli.specs.declared.status.Status.TheVariants.{Done, No, Open, GameRefused, CertRefused, WordsRefused, ReadFault, WriteFault, OutOfMemory, TooLong}
 use Rattle.osposg_cli.specs.declared.words.Command.{Command}
-use Rattle.osposg_cli.specs.declared.words.Command.TheVariants.{Check, Floor, Gen, Show, Solve, Summary}
+use Rattle.osposg_cli.specs.declared.words.Command.TheVariants.{Check, Close, Floor, Gen, Show, Solve, Summary}
 use Rattle.osposg_cli.specs.declared.words.Gap.{Gap}
+use Rattle.osposg_cli.specs.Close.{AnswersClose, ClosePromises, KeepsClose}
 use Rattle.osposg_cli.specs.Solve.{AnswersSolve, KeepsSolve, MakesCertificate, SolvePromises}
 use Rattle.osposg_cli.specs.Generate.{GenPromises, KeepsGen}
 use Rattle.osposg_cli.specs.Summary.{AnswersSummary, KeepsSummary, SummaryPromises}
@@ -44,13 +46,14 @@ given (Some left) new bytes gave = gave.0
 pub due_work : WorkIsDefined → (named : Option Command) (left new : Option (List ℕ)) (command : Command) (bytes : List ℕ) (status : Status) (text : List ℕ) →
     named ≡ Some command → GaveAll left new bytes → length bytes ≤ most_input → IsWork command bytes status text → IsDue named left status text
 due_work work named left new command bytes status text e gave few h =
-    (bytes, given left new bytes gave, subst (λ (c : Option Command). Answers c bytes status text) (sym e) (inr (λ reads. few, h)), (work command).told bytes status text h)
+    (bytes, given left new bytes gave, subst (λ (c : Option Command). Answers c bytes status text) (sym e) (inr (λ reads. few, h)), work.told command bytes status text h)
 
 -- a command that reads no input answers the same to every input
 work_any : (command : Command) → reads_input command ≡ false → (input other : List ℕ) (status : Status) (text : List ℕ) → IsWork command input status text → IsWork command other status text
 work_any Floor e input other status text h = absurd cc
 work_any (Solve trials gap) e input other status text h = absurd cc
 work_any Check e input other status text h = absurd cc
+work_any (Close rounds gap) e input other status text h = absurd cc
 work_any Show e input other status text h = absurd cc
 work_any (Gen number size) e input other status text h = h
 work_any (Summary number size trials gap) e input other status text h = h
@@ -63,7 +66,7 @@ pub due_unread : WorkIsDefined → (named : Option Command) (left : Option (List
 due_unread work named left command bytes status text e not h =
     let found = some_input left in
     let same = work_any command not bytes found.0 status text h in
-    (found.0, found.1, subst (λ (c : Option Command). Answers c found.0 status text) (sym e) (inr (λ reads. absurd (unread_not command not reads), same)), (work command).told found.0 status text same)
+    (found.0, found.1, subst (λ (c : Option Command). Answers c found.0 status text) (sym e) (inr (λ reads. absurd (unread_not command not reads), same)), work.told command found.0 status text same)
 
 -- a text that is due was written whole
 pub ends_whole : (command : Option Command) (left new : Option (List ℕ)) (room : ℕ) (old written : Option (List ℕ)) (status : Status) (text : List ℕ) →
@@ -167,6 +170,19 @@ promised_solve keeps trials gap named None room old written status text due wrot
 promised_solve keeps trials gap named (Some left) room old written status text due wrote e made =
     let answer = subst (λ (c : Option Command). Answers c left status text) e (due_to named (Some left) left status text refl due) in
     (text, keeps trials (gap_data gap) left text status (solve_work trials gap left text status answer made) made, wrote)
+
+-- what the certificate of `close` promises holds of what was written
+close_work : (rounds : ℕ) (gap : Option Gap) (input text : List ℕ) (status : Status) → Answers (Some (Close rounds gap)) input status text → MakesCertificate status → AnswersClose rounds (option_map gap_data gap) input status text
+close_work rounds gap input text status (inl (reads, l, s, t)) made = absurd (too_long_not status s made)
+close_work rounds gap input text status (inr (few, h)) made = h
+
+pub promised_close : KeepsClose → (rounds : ℕ) (gap : Option Gap) (named : Option Command) (left : Option (List ℕ)) (room : ℕ) (old written : Option (List ℕ)) (status : Status) (text : List ℕ) →
+    IsDue named left status text → Wrote room old written text → named ≡ Some (Close rounds gap) → MakesCertificate status →
+    IfSome left (λ input. WroteOne (ClosePromises (option_map gap_data gap) status input) room old written)
+promised_close keeps rounds gap named None room old written status text due wrote e made = tt
+promised_close keeps rounds gap named (Some left) room old written status text due wrote e made =
+    let answer = subst (λ (c : Option Command). Answers c left status text) e (due_to named (Some left) left status text refl due) in
+    (text, keeps rounds (option_map gap_data gap) left text status (close_work rounds gap left text status answer made) made, wrote)
 
 -- what the text of `gen` promises holds of what was written
 pub promised_gen : KeepsGen → (number size : ℕ) (named : Option Command) (left : Option (List ℕ)) (room : ℕ) (old written : Option (List ℕ)) (status : Status) (text : List ℕ) →

@@ -15,3 +15,4 @@ pub mod Slashes
 pub mod Solved
 pub mod Generated
 pub mod Summarised
+pub mod Closer

@@ -4,15 +4,16 @@ use Rattle.std.proofs.lemmas.Bool.{eqb-true}
 use Rattle.std.specs.List.{AllByRecursion, before_first, list_all}
 use Rattle.std.specs.Option.{option_and_then, option_map}
 use Rattle.clap.specs.declared.parser.matches.ArgMatches.{ArgMatches}
+use Rattle.closing.specs.Closer.{most_rounds}
 use Rattle.controller.specs.Certificates.{most_gap}
 use Rattle.option_words.specs.Options.{ArePlain, AreRead, AreRefused, IsPlain, Named, has_hyphen, is_among, options_of, values_read, values_under}
 use Rattle.osposg_cli.proofs.DigitValues.{digits_of-other}
 use Rattle.osposg_cli.specs.declared.words.Command.{Command}
-use Rattle.osposg_cli.specs.declared.words.Command.TheVariants.{Solve, Summary}
+use Rattle.osposg_cli.specs.declared.words.Command.TheVariants.{Close, Solve, Summary}
 use Rattle.osposg_cli.specs.declared.words.Gap.{Gap}
 use Rattle.hsvi_trial.specs.Run.{most_trials}
 use Rattle.osposg_cli.specs.Options.{Values, said, said_once}
-use Rattle.osposg_cli.specs.Words.{digits_of, gap_in, gap_of, gap_over, gen_names, gen_of, is_slash, made_of, most_number, most_size, number_in, number_of, read_by, size_in, solve_names, solve_of, trials_in, with_names}
+use Rattle.osposg_cli.specs.Words.{close_names, close_of, own_gap_in, rounds_in, some_gap, digits_of, gap_in, gap_of, gap_over, gen_names, gen_of, is_slash, made_of, most_number, most_size, number_in, number_of, read_by, size_in, solve_names, solve_of, trials_in, with_names}
 
 -- ---- what is read
 
@@ -103,6 +104,19 @@ solve-plain values c e =
     let trials = some-then (λ (n : ℕ). option_map (Solve n) (gap_in values)) (trials_in values) c e in
     let gap = some-map (Solve trials.0) (gap_in values) c trials.2 in
     (trials-plain values trials.0 trials.1, (tolerance-plain values gap.0 gap.1, tt))
+
+own-gap-plain : SaysPlain some_gap
+own-gap-plain text = rw (gap-plain text) refl
+
+pub close-plain : TakesPlain close_names close_of
+unfolding close_of
+close-plain values c e =
+    let rounds = some-then (λ (n : ℕ). option_map (Close n) (own_gap_in values)) (rounds_in values) c e in
+    let gap = some-map (Close rounds.0) (own_gap_in values) c rounds.2 in
+    (
+      said-plain 100 (number_of 0 most_rounds) (values (codes "rounds")) rounds.0 (number-plain 0 most_rounds) rounds.1,
+      (said-plain None some_gap (values (codes "gap")) gap.0 own-gap-plain gap.1, tt),
+    )
 
 made-plain : (values : Values) (trials gaps : List (List ℕ)) (number size : ℕ) (c : Command) → values (codes "trials") ≡ trials → values (codes "gap") ≡ gaps → made_of values trials gaps number size ≡ Some c →
     IsPlain (values (codes "trials")) × IsPlain (values (codes "gap"))

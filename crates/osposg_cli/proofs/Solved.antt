@@ -50,7 +50,7 @@ solve-defined exports laws trials gap = record {
 }
 
 -- ---- what it promises
-not_refused : (status : Status) → status ≡ GameRefused → MakesCertificate status → ⊥
+pub not_refused : (status : Status) → status ≡ GameRefused → MakesCertificate status → ⊥
 not_refused status refused (inl done) = let e = sym refused ∙ done in cc
 not_refused status refused (inr open_now) = let e = sym refused ∙ open_now in cc
 

@@ -1,15 +1,17 @@
 -- What the command and the input define, and how a run ends.
 use Rattle.std.specs.Prelude.{◌≡◌, ◌⊎◌, ℕ, ◌+◌, ◌<◌, ◌≤◌, List, [], ◌++◌, length, Option, Some, None, true, ⊤}
+use Rattle.std.specs.Option.{option_map}
 use Rattle.hsvi_io.specs.Bytes.{GaveFront, GaveTooMany, Wrote, WroteFront}
 use Rattle.osposg_cli.specs.declared.status.Status.{Status}
 use Rattle.osposg_cli.specs.declared.status.Status.TheVariants.{Done, No, Open, GameRefused, CertRefused, WordsRefused, ReadFault, WriteFault, OutOfMemory, TooLong}
 use Rattle.osposg_cli.specs.declared.words.Command.{Command}
 use Rattle.osposg_cli.specs.declared.words.Gap.{Gap}
-use Rattle.osposg_cli.specs.declared.words.Command.TheVariants.{Check, Floor, Gen, Show, Solve, Summary}
+use Rattle.osposg_cli.specs.declared.words.Command.TheVariants.{Check, Close, Floor, Gen, Show, Solve, Summary}
 use Rattle.game_model.specs.Game.{GameData}
 use Rattle.game_text.specs.Text.{IsTextOf, IsWholeTextOf}
 use Rattle.osposg_cli.specs.Check.{AnswersCheck}
-use Rattle.osposg_cli.specs.Defined.{AreAnswered, HasText, IsDefined, IsOne}
+use Rattle.osposg_cli.specs.Close.{AnswersClose}
+use Rattle.osposg_cli.specs.Defined.{AreAnswered, HasText, IsOne, IsTold}
 use Rattle.osposg_cli.specs.Floor.{AnswersFloor}
 use Rattle.osposg_cli.specs.Generate.{AnswersGen}
 use Rattle.osposg_cli.specs.Inputs.{most_input}
@@ -24,13 +26,20 @@ abbrev pub IsWork : Command → List ℕ → Status → List ℕ → Type 0
 IsWork Floor input status text = AnswersFloor input status text
 IsWork (Solve trials gap) input status text = AnswersSolve trials (gap_data gap) input status text
 IsWork Check input status text = AnswersCheck input status text
+IsWork (Close rounds gap) input status text = AnswersClose rounds (option_map gap_data gap) input status text
 IsWork Show input status text = AnswersShow input status text
 IsWork (Gen number size) input status text = AnswersGen number size status text
 IsWork (Summary number size trials gap) input status text = AnswersSummary number size trials (gap_data gap) status text
 
--- each command's answer is defined
-abbrev pub WorkIsDefined : Type 0
-WorkIsDefined = (command : Command) → IsDefined (IsWork command)
+-- the answer of a command is one: of all but `close`, which answers any closer certificate
+abbrev pub HasOneAnswer : Option Command → Type 0
+HasOneAnswer (Some (Close rounds gap)) = ⊥
+HasOneAnswer command = ⊤
+
+-- each command's answer has a text, and is one where the command has one answer
+pub record WorkIsDefined : Type 0 where
+  pub one : (command : Command) → HasOneAnswer (Some command) → (input : List ℕ) → IsOne (IsWork command input)
+  pub told : (command : Command) (input : List ℕ) → IsTold (IsWork command input)
 
 -- the words name a command that reads its input
 abbrev pub ReadsInput : Option Command → Type 0
@@ -67,13 +76,14 @@ AnswersInput status = (status ≡ Done) ⊎ (status ≡ No) ⊎ (status ≡ Open
 abbrev pub WritesNothing : Status → Type 0
 WritesNothing status = (status ≡ ReadFault) ⊎ (status ≡ TooLong) ⊎ (status ≡ OutOfMemory)
 
--- an input has one answer
+-- an input has one answer, where the command has one
 abbrev pub AnswersAreOne : Type 0
-AnswersAreOne = (command : Option Command) (input : List ℕ) → IsOne (Answers command input)
+AnswersAreOne = (command : Option Command) → HasOneAnswer command → (input : List ℕ) → IsOne (Answers command input)
 
 -- the words ask for no search
 abbrev pub AsksNoSearch : Option Command → Type 0
 AsksNoSearch (Some (Solve trials gap)) = ⊥
+AsksNoSearch (Some (Close rounds gap)) = ⊥
 AsksNoSearch (Some (Summary number size trials gap)) = ⊥
 AsksNoSearch command = ⊤
 

@@ -11,3 +11,4 @@ pub mod Options
 pub mod Solve
 pub mod Generate
 pub mod Summary
+pub mod Close

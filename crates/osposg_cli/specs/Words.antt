@@ -1,14 +1,15 @@
 -- The words of the command line.
-use Rattle.std.specs.Prelude.{ℕ, pos, ◌==◌, ◌≤◌, ◌^◌, ◌-◌, ◌&&◌, ⊤, nat_le, nat_lt, Bool, true, false, List, [], ◌∷◌, length, Option, Some, None, String, codes, map, if◌then◌else◌}
+use Rattle.std.specs.Prelude.{IfSome, ℕ, pos, ◌==◌, ◌≤◌, ◌^◌, ◌-◌, ◌&&◌, ⊤, nat_le, nat_lt, Bool, true, false, List, [], ◌∷◌, length, Option, Some, None, String, codes, map, if◌then◌else◌}
 use Rattle.std.specs.List.{after_first, before_first, list_all}
 use Rattle.std.specs.Option.{option_and_then, option_map}
 use Rattle.std.specs.Str.{all_ascii_digits, bytes_eq}
 use Rattle.std.specs.Str.Parse.{digits_value}
 use Rattle.std.specs.String.{string_bytes}
+use Rattle.closing.specs.Closer.{most_rounds}
 use Rattle.controller.specs.Certificates.{FractionData, IsGap, most_gap, most_gap_under}
 use Rattle.hsvi_trial.specs.Run.{most_trials}
 use Rattle.osposg_cli.specs.declared.words.Command.{Command}
-use Rattle.osposg_cli.specs.declared.words.Command.TheVariants.{Check, Floor, Gen, Show, Solve, Summary}
+use Rattle.osposg_cli.specs.declared.words.Command.TheVariants.{Check, Close, Floor, Gen, Show, Solve, Summary}
 use Rattle.osposg_cli.specs.declared.words.Gap.{Gap}
 use Rattle.option_words.specs.Options.{Named, is_among, options_of, values_under}
 use Rattle.osposg_cli.specs.Options.{Values, said, said_once}
@@ -71,6 +72,24 @@ solve_names = codes "trials" ∷ codes "gap" ∷ []
 unfoldable pub solve_of : Values → Option Command
 solve_of values = option_and_then (λ trials. option_map (Solve trials) (gap_in values)) (trials_in values)
 
+-- how many rounds `close` may make: 100 where no option says it
+abbrev pub rounds_in : Values → Option ℕ
+rounds_in values = said 100 (number_of 0 most_rounds) (values (codes "rounds"))
+
+-- a tolerance, where an option says one
+abbrev pub some_gap : List ℕ → Option (Option Gap)
+some_gap text = option_map Some (gap_of text)
+
+abbrev pub own_gap_in : Values → Option (Option Gap)
+own_gap_in values = said None some_gap (values (codes "gap"))
+
+-- `close` with its options
+abbrev pub close_names : List (List ℕ)
+close_names = codes "rounds" ∷ codes "gap" ∷ []
+
+unfoldable pub close_of : Values → Option Command
+close_of values = option_and_then (λ rounds. option_map (Close rounds) (own_gap_in values)) (rounds_in values)
+
 -- the greatest number of a generated game, and its greatest size
 abbrev pub most_number : ℕ
 most_number = 2 ^ 64 - 1
@@ -105,6 +124,7 @@ command_from word words =
     else if bytes_eq word (codes "solve") then read_by solve_names solve_of words
     else if bytes_eq word (codes "check") then read_by [] (λ values. Some Check) words
     else if bytes_eq word (codes "show") then read_by [] (λ values. Some Show) words
+    else if bytes_eq word (codes "close") then read_by close_names close_of words
     else if bytes_eq word (codes "gen") then read_by gen_names gen_of words
     else None
 
@@ -120,6 +140,7 @@ named words = command_of (map string_bytes words)
 -- the values of a command are within their limits
 abbrev pub IsWithinLimits : Command → Type 0
 IsWithinLimits (Solve trials gap) = (trials ≤ most_trials) × IsGap (gap_data gap)
+IsWithinLimits (Close rounds gap) = (rounds ≤ most_rounds) × IfSome gap (λ (gap : Gap). IsGap (gap_data gap))
 IsWithinLimits (Gen number size) = (1 ≤ size) × (size ≤ most_size)
 IsWithinLimits (Summary number size trials gap) = (1 ≤ size) × (size ≤ most_size) × (trials ≤ most_trials) × IsGap (gap_data gap)
 IsWithinLimits command = ⊤

@@ -5,6 +5,7 @@ ghost use Rattle.osposg_cli.specs.Answer.{Answers, AnswersAreOne, AnswersInput, 
 ghost use Rattle.osposg_cli.specs.Answer.{IsEarly, IsGiven, IsReadToEnd, IsUntouched, IsWork, ReadsInput};
 ghost use Rattle.osposg_cli.specs.Answer.{SolvedIsChecked, WorkIsDefined, WritesNothing, WroteOne};
 ghost use Rattle.osposg_cli.specs.Check.{CheckPromises};
+ghost use Rattle.osposg_cli.specs.Close.{ClosePromises};
 ghost use Rattle.osposg_cli.specs.Defined.{IsAnswered};
 ghost use Rattle.osposg_cli.specs.Floor.{FloorPromises};
 ghost use Rattle.osposg_cli.specs.Generate.{GenPromises};
@@ -14,15 +15,16 @@ ghost use Rattle.osposg_cli.specs.Solve.{MakesCertificate, SolvePromises};
 ghost use Rattle.osposg_cli.specs.Summary.{SummaryPromises};
 ghost use Rattle.osposg_cli.specs.Words.{IsWithinLimits, gap_data, named};
 ghost use Rattle.osposg_cli.specs.declared.words.Gap.{Gap};
-ghost use Rattle.osposg_cli.specs.declared.words.Command.TheVariants.{Check, Floor, Gen, Show, Solve, Summary};
-ghost use Rattle.std.specs.Prelude.{IfErr, IfOk, IfSome, IsErrOf, List, OnOk, Some, ℕ, length, ◌≡◌, ◌≤◌};
+ghost use Rattle.osposg_cli.specs.declared.words.Command.TheVariants.{Check, Close, Floor, Gen, Show, Solve, Summary};
+ghost use Rattle.std.specs.Option.{option_map};
+ghost use Rattle.std.specs.Prelude.{Option, IfErr, IfOk, IfSome, IsErrOf, List, OnOk, Some, ℕ, length, ◌≡◌, ◌≤◌};
 
 use crate::answer::Answer;
 use crate::inputs::MOST_INPUT;
 use crate::refusals::words_refused;
 use crate::status::Status;
 use crate::words::{Command, parse};
-use crate::{check, floor, generate, show, solve, summary};
+use crate::{check, close, floor, generate, show, solve, summary};
 use hsvi_io::{ReadEnd, Sink, Source, read_all, write_all};
 use std::alloc::{AllocError, Global};
 
@@ -86,11 +88,19 @@ pub fn run<I: Source, O: Sink>(
         MakesCertificate result → IfSome (I.left input.old) (λ bytes.
         WroteOne (SolvePromises (gap_data gap) result bytes)
         (O.room output.old) (O.written output.old) (O.written output.new)) }
+    // What the certificate of `close` promises: it is for the game that was read, its bounds are no worse than those of
+    // the certificate that was read, it has the tolerance of the words or else that certificate's, is closed exactly at
+    // Done, and both halves hold of it.
+    ensures close_proves { (rounds : ℕ) (gap : Option Gap) → named words.now ≡ Some (Close rounds gap) →
+        MakesCertificate result → IfSome (I.left input.old) (λ bytes.
+        WroteOne (ClosePromises (option_map gap_data gap) result bytes)
+        (O.room output.old) (O.written output.old) (O.written output.new)) }
 {
     law_answers();
     floor::law_floor();
     solve::law_solve();
     check::law_check();
+    close::law_close();
     show::law_show();
     generate::law_generate();
     summary::law_summary();
@@ -103,8 +113,9 @@ pub fn run<I: Source, O: Sink>(
     }
 }
 
-/// A law: the answer of each command is defined, so an input has one answer at most; without a search it has one. To
-/// what `solve` wrote for a game, behind a text of the game to its `end` line, `check` answers yes.
+/// A law: the answer of each command has a text, and that of each but `close` is one, so to such a command an input has
+/// one answer at most; without a search it has one. To what `solve` wrote for a game, behind a text of the game to its
+/// `end` line, `check` answers yes.
 pub fn law_answers()
     ensures work { WorkIsDefined }
     ensures one { AnswersAreOne }
@@ -115,6 +126,7 @@ pub fn law_answers()
     floor::law_floor();
     solve::law_solve();
     check::law_check();
+    close::law_close();
     show::law_show();
     generate::law_generate();
     summary::law_summary();
@@ -158,6 +170,7 @@ fn work(alloc: Global, command: Command, bytes: &[u8]) -> Result<Answer, AllocEr
         Command::Floor => floor::work(alloc, bytes),
         Command::Solve { trials, gap } => solve::work(alloc, trials, &gap.fraction(), bytes),
         Command::Check => check::work(alloc, bytes),
+        Command::Close { rounds, gap } => close::work(alloc, rounds, gap, bytes),
         Command::Show => show::work(alloc, bytes),
         Command::Gen { number, size } => generate::work(alloc, number, size),
         Command::Summary {

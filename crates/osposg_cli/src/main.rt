@@ -4,6 +4,7 @@
 
 mod answer;
 mod check;
+mod close;
 mod command;
 #[cfg(test)]
 mod end_tests;

@@ -1,11 +1,12 @@
 //! The words of the command line.
+ghost use Rattle.closing.specs.Closer.{most_rounds};
 ghost use Rattle.controller.specs.Certificates.{IsGap};
 ghost use Rattle.controller.specs.Data.{fraction_data};
 ghost use Rattle.hsvi_trial.specs.Run.{most_trials};
 ghost use Rattle.option_words.specs.Options.{values_read};
 ghost use Rattle.osposg_cli.specs.Words.{IsWithinLimits, command_from, digits_of, gap_data, gap_in, gap_of, gen_names};
 ghost use Rattle.osposg_cli.specs.Words.{gen_of, most_size, named, number_in, number_of, read_by, reads_input, size_in};
-ghost use Rattle.osposg_cli.specs.Words.{solve_names, solve_of, trials_in};
+ghost use Rattle.osposg_cli.specs.Words.{close_names, close_of, own_gap_in, rounds_in, solve_names, solve_of, trials_in};
 ghost use Rattle.std.specs.Prelude.{IfOk, IfSome, Some, [], map, ◌≡◌, ◌≤◌};
 ghost use Rattle.std.specs.String.{string_bytes};
 
@@ -51,6 +52,13 @@ pub enum Command {
     },
     /// The verdict on a certificate.
     Check,
+    /// A certificate made better.
+    Close {
+        /// How many rounds may be made.
+        rounds: u32,
+        /// How near the bounds are to come; the certificate's own tolerance where there is none.
+        gap: Option<Gap>,
+    },
     /// The canonical text of a game.
     Show,
     /// The text of a generated game.
@@ -93,7 +101,14 @@ const TRIALS: u32 = 100;
 /// The greatest size of a generated game.
 const MOST_SIZE: u128 = 16;
 
-/// The options of `solve` and of `gen`.
+/// The most rounds of `close`, and how many there are where the words say nothing.
+const MOST_CLOSING: u128 = 10_000;
+
+const ROUNDS: u32 = 100;
+
+/// The options of `close`, of `solve` and of `gen`.
+const CLOSE: [&str; 2] = ["rounds", "gap"];
+
 const SOLVE: [&str; 2] = ["trials", "gap"];
 
 const GEN: [&str; 4] = ["number", "size", "trials", "gap"];
@@ -124,6 +139,8 @@ fn command_from(alloc: Global, word: &str, words: &[String]) -> Result<Option<Co
         alone(alloc, Command::Check, words)
     } else if word == "show" {
         alone(alloc, Command::Show, words)
+    } else if word == "close" {
+        close(alloc, words)
     } else if word == "gen" {
         generate(alloc, words)
     } else {
@@ -200,6 +217,53 @@ fn gap_of(text: &str) -> Option<Gap>
         num: num as u64,
         den: den as u32,
     })
+}
+
+/// `close` with its options.
+fn close(alloc: Global, words: &[String]) -> Result<Option<Command>, AllocError>
+    ensures command { IfOk result (λ named. named ≡ read_by close_names close_of (map string_bytes words.now)) }
+    ensures within { IfOk result (λ named. IfSome named IsWithinLimits) }
+{
+    match read(alloc, CLOSE.as_slice(), words)? {
+        Some(options) => Ok(close_of(&options)),
+        None => Ok(None),
+    }
+}
+
+/// `close` by the values of its options.
+#[tactic(auto, unfolding(crate::specs::Words::close_of))]
+fn close_of(options: &ArgMatches<'_>) -> Option<Command>
+    ensures command { result ≡ close_of (values_read options.now) }
+    ensures within { IfSome result IsWithinLimits }
+{
+    let rounds = rounds_in(options)?;
+    let gap = own_gap_in(options)?;
+    Some(Command::Close { rounds, gap })
+}
+
+/// How many rounds may be made.
+fn rounds_in(options: &ArgMatches<'_>) -> Option<u32>
+    ensures value { result ≡ rounds_in (values_read options.now) }
+    ensures within { IfSome result (λ rounds. rounds ≤ most_rounds) }
+{
+    match options.get_str("rounds") {
+        Some(text) => Some(number(text, 0, MOST_CLOSING)? as u32),
+        None => Some(ROUNDS),
+    }
+}
+
+/// How near the bounds are to come, where an option says it.
+fn own_gap_in(options: &ArgMatches<'_>) -> Option<Option<Gap>>
+    ensures value { result ≡ own_gap_in (values_read options.now) }
+    ensures within { IfSome result (λ gap. IfSome gap (λ gap. IsGap (gap_data gap))) }
+{
+    match options.get_str("gap") {
+        Some(text) => match gap_of(text) {
+            Some(gap) => Some(Some(gap)),
+            None => None,
+        },
+        None => Some(None),
+    }
 }
 
 /// `gen` with its options.

@@ -1,5 +1,5 @@
 use Rattle.std.proofs.Common.{rules}
-use Rattle.osposg_cli.proofs.Due.{complete_early, complete_whole, ends_whole, promised, promised_gen, promised_solve, promised_summary}
+use Rattle.osposg_cli.proofs.Due.{complete_early, complete_whole, ends_whole, promised, promised_close, promised_gen, promised_solve, promised_summary}
 use Rattle.osposg_cli.specs.declared.words.Command.TheVariants.{Check, Floor, Show}
 use Rattle.osposg_cli.specs.Check.{CheckPromises}
 use Rattle.osposg_cli.specs.Floor.{FloorPromises}
@@ -38,3 +38,7 @@ returns-in-Ok-write_all-clause-gen_spells g c =
 pub returns-in-Ok-write_all-clause-gen_proves : goal.returns-in-Ok-write_all-clause-gen_proves
 returns-in-Ok-write_all-clause-gen_proves g c =
     λ number size trials gap e made. promised_summary c.law_summary.ensures.keeps number size trials gap _ _ _ _ _ _ _ c.in-Ok.ensures.due (search rules) e made
+
+pub returns-in-Ok-write_all-clause-close_proves : goal.returns-in-Ok-write_all-clause-close_proves
+returns-in-Ok-write_all-clause-close_proves g c =
+    λ rounds gap e made. promised_close c.law_close.ensures.keeps rounds gap _ _ _ _ _ _ _ c.in-Ok.ensures.due (search rules) e made
