@@ -25,8 +25,6 @@ mod points;
 #[cfg(test)]
 mod programs;
 #[cfg(test)]
-mod searches;
-#[cfg(test)]
 mod seeds;
 #[cfg(test)]
 mod solvers;

@@ -1,34 +1,15 @@
-//! Worked searches, and games that are solved.
+//! Games that are solved.
 
-use crate::certificates::three_halved;
-use crate::seeds::{guess, pennies};
+use crate::games::{five_each_time, guess, pennies, three_halved};
 use controller::Outcome;
-use game_model::{Game, GameBuilder, GameFault, Shape};
 use hsvi_trial::{Solved, solve};
 use scaled_num::Fraction;
-use std::alloc::Global;
 
 /// The gap of a search that is asked for none.
-const USUAL_GAP: Fraction = Fraction { num: 1, den: 100 };
-
-/// One state and one action of each player, with the reward 5, without a future.
-fn five_each_time(alloc: Global) -> Result<Game, GameFault> {
-    let shape = Shape {
-        states: 1,
-        own_actions: 1,
-        informed_actions: 1,
-        observations: 1,
-        row_total: 1,
-        discount: (0, 1),
-    };
-    let mut builder = GameBuilder::new(alloc, shape, &[1])?;
-    builder.step(5)?;
-    builder.landing(0, 0, 1)?;
-    builder.finish()
-}
+pub const USUAL_GAP: Fraction = Fraction { num: 1, den: 100 };
 
 /// Whether a solved game has so many nodes, points and visits.
-fn has_sizes(solved: &Solved, nodes: u32, points: u32, visits: usize) -> bool {
+pub fn has_sizes(solved: &Solved, nodes: u32, points: u32, visits: usize) -> bool {
     solved.nodes.len() == nodes && solved.points.len() == points && solved.journal.len() == visits
 }
 
