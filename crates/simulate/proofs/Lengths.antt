@@ -1,14 +1,15 @@
 -- How long plays may be.
-use Rattle.std.proofs.Common.{◌≡◌, ℕ, zero, suc, ◌+◌, ◌*◌, ◌/◌, ◌%◌, ◌^◌, ◌<◌, ◌≤◌, max, List, [], ◌∷◌, ap, arith, ◌∙◌}
+use Rattle.std.proofs.Common.{◌≡◌, ℕ, zero, suc, ◌+◌, ◌*◌, ◌/◌, ◌%◌, ◌^◌, ◌<◌, ◌≤◌, max, List, [], ◌∷◌, ap, arith, inl, inr, ◌⊎◌, ◌∙◌}
 use native.Mathlib.Numerals.{unary_clauses}
 use Rattle.std.specs.Prelude.{ℤ, fold, unsigned_abs}
 use Rattle.std.specs.List.{AllByRecursion}
 use Rattle.std.proofs.Math.Nat.{pow-le-pow_right, pow-zero}
+use Rattle.std.proofs.lemmas.Bool.{cases_order}
 use Rattle.std.proofs.lemmas.Int.{ints}
 use Rattle.std.proofs.lemmas.Nat.{div-add-mod', div_below, le-div, mod_below, mul-le}
 use Rattle.game_model.specs.Game.{GameData, IsGame, IsRewardInRange, greatest_reward, numbers}
 use Rattle.game_model.proofs.Pay.{each-from}
-use Rattle.simulate.specs.Lengths.{IsLongest, IsShortPlay, most_gain}
+use Rattle.simulate.specs.Lengths.{IsLongest, IsShortPlay, LengthsAreOne, most_gain}
 
 -- ---- the limits of a game
 greatest-small : (rewards : List ℤ) (n : ℕ) → n ≤ 2 ^ 30 → AllByRecursion IsRewardInRange rewards → fold (λ most r. max most (unsigned_abs r)) n rewards ≤ 2 ^ 30
@@ -147,4 +148,28 @@ is-triple S A C i own informed l = record {
   own = mod_below (i / C) A own;
   informed = mod_below i C informed;
   is = ap (λ (n : ℕ). n * C + i % C) (div-add-mod' (i / C) A) ∙ div-add-mod' i C;
+}
+
+few-or-many : (n most : ℕ) → (n ≤ most) ⊎ (most < n)
+few-or-many n most = elim (cases_order n most) [ inl e ↦ inl (omega (arith, e)) | inr l ↦ elim l [ inl a ↦ inl (omega (arith, a)) | inr b ↦ inr b ] ]
+
+-- ---- every game has one greatest number of stages
+longest-from : (g : GameData) (n : ℕ) → IsGame g → n ≤ 64 → (IsShortPlay g (suc n) → ⊥) → (m : ℕ) × IsLongest g m
+longest-from g zero game few more = (0, longest-is g 0 game (omega arith, omega arith) more)
+longest-from g (suc n) game few more =
+    either (few-or-many (most_gain g (suc n)) (2 ^ 120))
+    (λ fits. (suc n, longest-is g (suc n) game (few, fits) more))
+    (λ beyond. longest-from g n game (omega arith) (λ short. let fits = short.1 in omega (arith, fits, beyond)))
+  where
+    either : {A B C : Type 0} → A ⊎ B → (A → C) → (B → C) → C
+    either (inl a) f h = f a
+    either (inr b) f h = h b
+
+pub lengths-are_one : LengthsAreOne
+lengths-are_one = record {
+  some = λ g game. longest-from g 64 game (omega arith) (ends-at_most g);
+  one = λ g n m h k.
+      let first : n ≤ m = (k n).1 ((h n).0 (omega arith)) in
+      let second : m ≤ n = (h m).1 ((k m).0 (omega arith)) in
+      omega arith;
 }

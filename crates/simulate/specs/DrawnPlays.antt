@@ -3,12 +3,12 @@ use Rattle.std.specs.Prelude.{ℕ, zero, suc, ◌+◌, ◌==◌, ◌≡◌, ◌�
 use Rattle.std.specs.List.{sum}
 use Rattle.rand_pcg.specs.Lcg.{Lcg}
 use Rattle.hsvi_draw.specs.Draws.{after_draws, seeded}
-use Rattle.game_model.specs.Game.{GameData, numbers}
+use Rattle.game_model.specs.Game.{GameData, IsGame, numbers}
 use Rattle.game_model.specs.Mixed.{mixed_informed, mixed_own}
 use Rattle.game_model.specs.Plan.{InformedPlan, IsInformedPlan}
 use Rattle.game_model.specs.Play.{IsPlay, Step, gain, play_weight}
 use Rattle.alpha_set.specs.Nodes.{nodes_of, steps_at}
-use Rattle.controller.specs.Certificates.{CertificateData}
+use Rattle.controller.specs.Certificates.{CertificateData, CertificateStands}
 use Rattle.history_model.specs.Halves.{from_total, over_total, reply, reply_item, start, start_item}
 use Rattle.simulate.specs.Choices.{place_drawn}
 use Rattle.simulate.specs.Plays.{begin_draws, begun, draws_over, from_weights, gain_of, move_draws, moved, over_weights, played_at, share_weights, shares_after, simulated, start_place, state_drawn, step_weights}
@@ -96,3 +96,8 @@ pub record IsOwnPlay (g : GameData) (k : CertificateData) (seed n : ℕ) (agains
   pub weight : 1 ≤ play_weight (numbers g) n (state_drawn g (seeded seed)) (start k n) (rival_plan g k against (state_drawn g (seeded seed)) n) (drawn_play g k seed n against)
   pub shows : shown (state_drawn g (seeded seed)) (drawn_play g k seed n against) ≡ simulated g k seed n against
   pub gains : gain (numbers g) (state_drawn g (seeded seed)) (drawn_play g k seed n against) ≡ gain_of (numbers g) (simulated g k seed n against)
+
+-- whatever the game, the certificate that stands, the seed, the stages and the rival
+abbrev pub PlaysAreOwn : Type 0
+PlaysAreOwn =
+    (g : GameData) (k : CertificateData) (seed n : ℕ) (against : Rival) → IsGame g → CertificateStands g k → IsOwnPlay g k seed n against

@@ -1,6 +1,6 @@
 -- How long plays may be, so that their gains fit.
-use Rattle.std.specs.Prelude.{ℕ, max, ◌*◌, ◌^◌, ◌<◌, ◌≤◌, ◌↔◌}
-use Rattle.game_model.specs.Game.{GameData, greatest_reward, numbers}
+use Rattle.std.specs.Prelude.{ℕ, max, ◌*◌, ◌^◌, ◌<◌, ◌≤◌, ◌≡◌, ◌↔◌}
+use Rattle.game_model.specs.Game.{GameData, IsGame, greatest_reward, numbers}
 use Rattle.simulate.specs.declared.parts.Played.{Played}
 
 -- the most stages of a play
@@ -18,6 +18,11 @@ IsShortPlay g n = (n ≤ most_stages) × (most_gain g n ≤ 2 ^ 120)
 -- the greatest number of stages within the limit: so many and fewer are, and no more
 abbrev pub IsLongest : GameData → ℕ → Type 0
 IsLongest g n = (m : ℕ) → m ≤ n ↔ IsShortPlay g m
+
+-- every game has a greatest number of stages, and only one
+pub record LengthsAreOne : Type 0 where
+  pub some : (g : GameData) → IsGame g → (n : ℕ) × IsLongest g n
+  pub one : (g : GameData) (n m : ℕ) → IsLongest g n → IsLongest g m → n ≡ m
 
 -- a step whose reward the game has
 abbrev pub IsInGame : GameData → Played → Type 0

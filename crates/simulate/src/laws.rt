@@ -1,7 +1,8 @@
 //! Laws of plays.
 
 ghost use Rattle.controller.specs.Certificates.{CertificateStands};
-ghost use Rattle.simulate.specs.DrawnPlays.{EvenIsPlan, IsOwnPlay};
+ghost use Rattle.simulate.specs.DrawnPlays.{EvenIsPlan, IsOwnPlay, PlaysAreOwn};
+ghost use Rattle.simulate.specs.Lengths.{LengthsAreOne};
 
 use crate::parts::Rival;
 use controller::Certificate;
@@ -17,4 +18,11 @@ pub fn law_play(game: &Game, certificate: &Certificate, seed: u64, stages: u32, 
     ensures play { IsOwnPlay game.now certificate.now seed stages against }
 {
     law_game(game);
+    law_plays();
 }
+
+/// A law: the same of every game and certificate that stands, and a game has one greatest number of stages.
+pub fn law_plays()
+    ensures own { PlaysAreOwn }
+    ensures lengths { LengthsAreOne }
+{}

@@ -11,6 +11,6 @@ mod starts;
 mod weights;
 
 pub use gains::longest;
-pub use laws::law_play;
+pub use laws::{law_play, law_plays};
 pub use parts::{PlayLog, Played, Rival};
 pub use plays::play;
