@@ -23,8 +23,12 @@ fn played(
     if game.len() > MANY || certificate.len() > MANY {
         return None;
     }
-    let game = game_text::read_alone(alloc, game).ok()?;
-    let certificate = cert_text::read(alloc, &game, certificate).ok()?;
+    let Ok(game) = game_text::read_alone(alloc, game) else {
+        return None;
+    };
+    let Ok(certificate) = cert_text::read(alloc, &game, certificate) else {
+        return None;
+    };
     if stages > longest(&game) {
         return None;
     }
