@@ -1,5 +1,5 @@
 -- What is remembered stays right while visits keep members, and may be used where there are as many.
-use Rattle.std.proofs.Common.{◌≡◌, ℕ, ◌+◌, List, Option, Some, None, [], ◌∷◌, length, ap, sym, subst, arith, length-append}
+use Rattle.std.proofs.Common.{◌≡◌, ℕ, ◌+◌, List, Option, Some, None, [], ◌∷◌, length, ap, sym, subst, ◌∙◌, arith, length-append}
 use Rattle.std.proofs.lemmas.List.Elements.{All-set}
 use Rattle.std.specs.List.{All}
 use Rattle.std.specs.Prelude.{ℤ, IfSome, slice_set}
@@ -87,3 +87,20 @@ memory-new g nodes points memory lower upper = record {
   lower = λ k d l. nothing (IsLowerSide g nodes) _ (lower k d l);
   upper = λ k d l. nothing (IsUpperSide g points) _ (upper k d l);
 }
+
+-- ---- a side is recalled
+pub lower-forgotten : (g : GameData) (nodes : List NodeData) (sides : List (Option LowerSide)) (i : ℕ) (gone : Option LowerSide) → AreLowerSides g nodes sides → gone ≡ None → AreLowerSides g nodes (slice_set sides i gone)
+lower-forgotten g nodes sides i gone each none = All-set (λ (s : Option LowerSide). IfSome s (IsLowerSide g nodes)) sides i gone (nothing (IsLowerSide g nodes) gone none) each
+
+pub upper-forgotten : (g : GameData) (points : List PointData) (sides : List (Option UpperSide)) (i : ℕ) (gone : Option UpperSide) → AreUpperSides g points sides → gone ≡ None → AreUpperSides g points (slice_set sides i gone)
+upper-forgotten g points sides i gone each none = All-set (λ (s : Option UpperSide). IfSome s (IsUpperSide g points)) sides i gone (nothing (IsUpperSide g points) gone none) each
+
+pub lower-recalled : (g : GameData) (nodes : List NodeData) (belief : List ℤ) (count : ℕ) (side : Option LowerSide) → IfSome side (IsLowerSide g nodes) → count ≡ length nodes →
+    IfSome side (λ (s : LowerSide). (s.count ≡ count) × (s.belief ≡ belief)) → IfSome side (λ (s : LowerSide). IsLowerMade g nodes belief (lower_data s.advice) (node_data s.node))
+lower-recalled g nodes belief count None is few at = tt
+lower-recalled g nodes belief count (Some s) is few at = subst (λ (b : List ℤ). IsLowerMade g nodes b (lower_data s.advice) (node_data s.node)) at.1 (is.right (at.0 ∙ few))
+
+pub upper-recalled : (g : GameData) (points : List PointData) (belief : List ℤ) (count : ℕ) (side : Option UpperSide) → IfSome side (IsUpperSide g points) → count ≡ length points →
+    IfSome side (λ (s : UpperSide). (s.count ≡ count) × (s.belief ≡ belief)) → IfSome side (λ (s : UpperSide). IsUpperMade g points belief (upper_data s.advice) (point_data s.point))
+upper-recalled g points belief count None is few at = tt
+upper-recalled g points belief count (Some s) is few at = subst (λ (b : List ℤ). IsUpperMade g points b (upper_data s.advice) (point_data s.point)) at.1 (is.right (at.0 ∙ few))

@@ -4,6 +4,7 @@ ghost use Rattle.alpha_set.specs.Members.{node_data};
 ghost use Rattle.hsvi_trial.specs.Remembered.{AreLowerSides, AreUpperSides, IsLowerMade, IsUpperMade};
 ghost use Rattle.point_set.specs.Members.{point_data};
 ghost use Rattle.stage_game.specs.Data.{lower_data, upper_data};
+ghost use Rattle.std.specs.Bool.{IsTrue};
 ghost use Rattle.std.specs.List.{All};
 ghost use Rattle.std.specs.Prelude.{IfOk, IfSome, None, ◌≡◌};
 
@@ -71,13 +72,12 @@ fn blank<T: Drop>(alloc: Global) -> Result<Vec<Option<T>>, AllocError>
     Ok(sides)
 }
 
-/// The lower side of the last visit at a depth, where it was made at this belief and number of nodes. It is then no
+/// The lower side of a visit, where one is remembered that was made at this belief and number of nodes. It is then no
 /// longer remembered.
 pub fn recall_lower(
     sides: &mut Vec<Option<LowerSide>>,
     _game: &Game,
     belief: &Belief,
-    depth: u32,
     nodes: &NodeSet,
 ) -> Option<LowerSide>
     requires sides { AreLowerSides _game.now nodes.now.members sides.old.items }
@@ -85,15 +85,21 @@ pub fn recall_lower(
     ensures made { IfSome result (λ side.
         IsLowerMade _game.now nodes.now.members belief.now (lower_data side.advice) (node_data side.node)) }
 {
-    let i = depth as usize;
-    if i >= sides.len() {
-        return None;
+    for i in 0..sides.len() {
+        if is_lower_at(&sides[i], belief, nodes.len()) {
+            return sides[i].take();
+        }
     }
-    let side = sides[i].take()?;
-    if side.count == nodes.len() && side.belief.same(belief) {
-        Some(side)
-    } else {
-        None
+    None
+}
+
+/// Whether a lower side is remembered that was made at this belief and this number of nodes.
+fn is_lower_at(side: &Option<LowerSide>, belief: &Belief, count: u32) -> bool
+    ensures { IsTrue result → IfSome side.now (λ side. (side.count ≡ count) × (side.belief ≡ belief.now)) }
+{
+    match side {
+        Some(side) => side.count == count && side.belief.same(belief),
+        None => false,
     }
 }
 
@@ -126,13 +132,12 @@ pub fn remember_lower(
     }
 }
 
-/// The upper side of the last visit at a depth, where it was made at this belief and number of points. It is then no
+/// The upper side of a visit, where one is remembered that was made at this belief and number of points. It is then no
 /// longer remembered.
 pub fn recall_upper(
     sides: &mut Vec<Option<UpperSide>>,
     _game: &Game,
     belief: &Belief,
-    depth: u32,
     points: &PointSet,
 ) -> Option<UpperSide>
     requires sides { AreUpperSides _game.now points.now.members sides.old.items }
@@ -140,15 +145,21 @@ pub fn recall_upper(
     ensures made { IfSome result (λ side.
         IsUpperMade _game.now points.now.members belief.now (upper_data side.advice) (point_data side.point)) }
 {
-    let i = depth as usize;
-    if i >= sides.len() {
-        return None;
+    for i in 0..sides.len() {
+        if is_upper_at(&sides[i], belief, points.len()) {
+            return sides[i].take();
+        }
     }
-    let side = sides[i].take()?;
-    if side.count == points.len() && side.belief.same(belief) {
-        Some(side)
-    } else {
-        None
+    None
+}
+
+/// Whether a upper side is remembered that was made at this belief and this number of points.
+fn is_upper_at(side: &Option<UpperSide>, belief: &Belief, count: u32) -> bool
+    ensures { IsTrue result → IfSome side.now (λ side. (side.count ≡ count) × (side.belief ≡ belief.now)) }
+{
+    match side {
+        Some(side) => side.count == count && side.belief.same(belief),
+        None => false,
     }
 }
 

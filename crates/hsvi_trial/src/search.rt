@@ -167,7 +167,6 @@ impl<'g> Search<'g> {
             &mut self.solver,
             self.game,
             &place.belief,
-            place.depth,
             &mut self.nodes,
             &mut self.points,
             &mut self.journal,

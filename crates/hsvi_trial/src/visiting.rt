@@ -32,7 +32,7 @@ pub struct Made {
     pub point: Point,
 }
 
-/// Makes both advices at a belief with their members, or takes those that are remembered of its depth, and makes room
+/// Makes both advices at a belief with their members, or takes those that are remembered, and makes room
 /// for what a visit may add.
 ///
 /// # Errors
@@ -43,7 +43,6 @@ pub fn make(
     solver: &mut Solver,
     game: &Game,
     belief: &Belief,
-    depth: u32,
     nodes: &mut NodeSet,
     points: &mut PointSet,
     journal: &mut Vec<Visit>,
@@ -70,16 +69,8 @@ pub fn make(
         IsUpperMade game.now points.old.members belief.now (upper_data made.upper) (point_data made.point)) }
 {
     law_game(game);
-    let (lower, node) = lower_side(alloc, solver, game, belief, depth, nodes, &mut memory.lower)?;
-    let (upper, point) = upper_side(
-        alloc,
-        solver,
-        game,
-        belief,
-        depth,
-        points,
-        &mut memory.upper,
-    )?;
+    let (lower, node) = lower_side(alloc, solver, game, belief, nodes, &mut memory.lower)?;
+    let (upper, point) = upper_side(alloc, solver, game, belief, points, &mut memory.upper)?;
     nodes.reserve(1)?;
     points.reserve(1)?;
     journal.reserve(1)?;
@@ -91,13 +82,12 @@ pub fn make(
     })
 }
 
-/// The lower advice at a belief and its node: those that are remembered of its depth, or new ones.
+/// The lower advice at a belief and its node: those that are remembered, or new ones.
 fn lower_side(
     alloc: Global,
     solver: &mut Solver,
     game: &Game,
     belief: &Belief,
-    depth: u32,
     nodes: &NodeSet,
     sides: &mut Vec<Option<LowerSide>>,
 ) -> Result<(LowerAdvice, Node), AllocError>
@@ -111,19 +101,18 @@ fn lower_side(
     ensures made { IfOk result (λ made.
         IsLowerMade game.now nodes.now.members belief.now (lower_data made.0) (node_data made.1)) }
 {
-    match recall_lower(sides, game, belief, depth, nodes) {
+    match recall_lower(sides, game, belief, nodes) {
         Some(side) => Ok((side.advice, side.node)),
         None => lower_visit(alloc, solver, game, belief, nodes),
     }
 }
 
-/// The upper advice at a belief and its point: those that are remembered of its depth, or new ones.
+/// The upper advice at a belief and its point: those that are remembered, or new ones.
 fn upper_side(
     alloc: Global,
     solver: &mut Solver,
     game: &Game,
     belief: &Belief,
-    depth: u32,
     points: &PointSet,
     sides: &mut Vec<Option<UpperSide>>,
 ) -> Result<(UpperAdvice, Point), AllocError>
@@ -137,7 +126,7 @@ fn upper_side(
     ensures made { IfOk result (λ made.
         IsUpperMade game.now points.now.members belief.now (upper_data made.0) (point_data made.1)) }
 {
-    match recall_upper(sides, game, belief, depth, points) {
+    match recall_upper(sides, game, belief, points) {
         Some(side) => Ok((side.advice, side.point)),
         None => upper_visit(alloc, solver, game, belief, points),
     }
