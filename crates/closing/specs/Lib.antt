@@ -1,3 +1,4 @@
 pub mod Closer
 pub mod Better
 pub mod Seen
+pub mod Plans

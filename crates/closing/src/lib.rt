@@ -5,7 +5,13 @@ mod branches;
 mod closer;
 mod export;
 mod keeps;
+mod going;
+mod places;
+mod regrets;
 mod rounds;
+mod sharing;
+mod steps;
+mod sums;
 mod sweeps;
 mod visits;
 

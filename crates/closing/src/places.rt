@@ -1,0 +1,36 @@
+//! Places in the tables of matching, which have room for the largest game.
+
+ghost use Rattle.std.specs.Prelude.{◌<◌};
+
+use game_model::{Game, law_game};
+
+/// How many actions a player has at most.
+pub const OWN_PLACES: usize = 6;
+
+/// A weight for each action of a player.
+pub type Weights = [i128; OWN_PLACES];
+
+/// How many pairs of an own action and an observation there are at most.
+pub const PAIRS: usize = 48;
+
+/// How many of these pairs with a next state there are at most.
+pub const ENDS: usize = 768;
+
+/// The place of an own action and an observation.
+pub fn pair_place(game: &Game, a: u32, o: u32) -> usize
+    requires own { a < game.now.shape.own_actions }
+    requires seen { o < game.now.shape.observations }
+    ensures { result < 48 }
+{
+    law_game(game);
+    a as usize * 8 + o as usize
+}
+
+/// The place of a pair and a next state.
+pub fn end_place(pair: usize, to: usize) -> usize
+    requires pair { pair < 48 }
+    requires to { to < 16 }
+    ensures { result < 768 }
+{
+    pair * 16 + to
+}

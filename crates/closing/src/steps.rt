@@ -1,0 +1,184 @@
+//! The steps of player one: after each own action and observation, nodes by the weights that they were chosen with.
+
+ghost use Rattle.alpha_set.specs.Nodes.{IsMix};
+ghost use Rattle.closing.specs.Plans.{AddsForEach, AddsSuch, AreForPairs, AreStepsFor, numbered};
+ghost use Rattle.game_model.specs.Branches.{branch_of};
+ghost use Rattle.scaled_num.specs.Share.{at};
+ghost use Rattle.stage_game.specs.AdviceData.{has_weight};
+ghost use Rattle.std.specs.Prelude.{IfOk, filter, length, map, slice_index, ◌++◌, ◌<◌, ◌≡◌, ◌≤◌};
+
+use crate::places::{OWN_PLACES, PAIRS, Weights, pair_place};
+use crate::sharing::share;
+use alpha_set::Step;
+use game_model::{Game, law_game};
+use std::alloc::{AllocError, Global};
+
+/// How many rounds are played.
+pub const ROUNDS: usize = 30;
+
+/// What player one did in each round.
+#[derive(Drop)]
+pub struct Plays {
+    /// The own mix, times the squared number of the round.
+    mixes: [Weights; ROUNDS],
+    /// The node after each own action and observation.
+    nodes: [[u32; PAIRS]; ROUNDS],
+}
+
+impl Plays {
+    /// Nothing is played yet.
+    pub fn new() -> Plays {
+        Plays {
+            mixes: [[0; OWN_PLACES]; ROUNDS],
+            nodes: [[0; PAIRS]; ROUNDS],
+        }
+    }
+
+    /// Keeps what player one did in a round, counted from 0.
+    pub fn keep(&mut self, round: u32, mix: &Weights, nodes: &[u32; PAIRS])
+        requires { round < 30 }
+    {
+        let times = i128::from(round + 1) * i128::from(round + 1);
+        let mut weights = *mix;
+        for place in 0..OWN_PLACES {
+            weights[place] = weights[place].saturating_mul(times);
+        }
+        self.mixes[round as usize] = weights;
+        self.nodes[round as usize] = *nodes;
+    }
+
+    /// Adds to the weight of each node what it was chosen with after an own action and an observation.
+    fn weigh(&self, game: &Game, a: u32, o: u32, weights: &mut [i128])
+        requires own { a < game.now.shape.own_actions }
+        requires seen { o < game.now.shape.observations }
+        ensures { length weights.new ≡ length weights.old }
+    {
+        law_game(game);
+        let pair = pair_place(game, a, o);
+        for round in 0..ROUNDS {
+            let more = self.mixes[round][a as usize];
+            add_at(weights, self.nodes[round][pair], more);
+        }
+    }
+}
+
+/// Adds to the number of a place, where there is such a place.
+fn add_at(numbers: &mut [i128], place: u32, more: i128)
+    ensures { length numbers.new ≡ length numbers.old }
+{
+    if (place as usize) < numbers.len() {
+        numbers[place as usize] = numbers[place as usize].saturating_add(more);
+    }
+}
+
+/// Adds a step to each node that has a share.
+fn push_steps(a: u32, o: u32, shares: &[i128], next: &mut Vec<Step>) -> Result<(), AllocError>
+    requires few { length shares.now ≤ 1024 }
+    ensures { IfOk result (λ _.
+        map branch_of next.new.items ≡ map branch_of next.old.items ++ filter has_weight (numbered a o shares.now)) }
+{
+    for place in 0..shares.len() {
+        let weighs = shares[place] != 0;
+        if weighs {
+            next.push(Step {
+                a,
+                o,
+                k: place as u32,
+                weight: shares[place],
+            })?;
+        }
+    }
+    Ok(())
+}
+
+/// Adds the steps after an own action and an observation. The slices of weights and shares are overwritten.
+fn push_steps_after(
+    game: &Game,
+    plays: &Plays,
+    own: &[i128],
+    a: u32,
+    o: u32,
+    weights: &mut [i128],
+    shares: &mut [i128],
+    next: &mut Vec<Step>,
+) -> Result<(), AllocError>
+    requires own { IsMix game.now.shape.own_actions own.now }
+    requires action { a < game.now.shape.own_actions }
+    requires observation { o < game.now.shape.observations }
+    requires some { 1 ≤ length weights.old }
+    requires few { length weights.old ≤ 1024 }
+    requires shares { length shares.old ≡ length weights.old }
+    ensures weights { length weights.new ≡ length weights.old }
+    ensures shares { length shares.new ≡ length weights.old }
+    ensures steps { IfOk result (λ _.
+        AddsSuch (AreStepsFor (length weights.old) a o (at own.now a)) (map branch_of next.old.items)
+        (map branch_of next.new.items)) }
+{
+    weights.fill(0);
+    plays.weigh(game, a, o, weights);
+    share(weights, own[a as usize], shares);
+    push_steps(a, o, shares, next)
+}
+
+/// Adds the steps after an own action.
+fn push_steps_of(
+    game: &Game,
+    plays: &Plays,
+    own: &[i128],
+    a: u32,
+    weights: &mut [i128],
+    shares: &mut [i128],
+    next: &mut Vec<Step>,
+) -> Result<(), AllocError>
+    requires own { IsMix game.now.shape.own_actions own.now }
+    requires action { a < game.now.shape.own_actions }
+    requires some { 1 ≤ length weights.old }
+    requires few { length weights.old ≤ 1024 }
+    requires shares { length shares.old ≡ length weights.old }
+    ensures weights { length weights.new ≡ length weights.old }
+    ensures shares { length shares.new ≡ length weights.old }
+    ensures steps { IfOk result (λ _.
+        AddsForEach (λ o. AreStepsFor (length weights.old) a o (at own.now a)) game.now.shape.observations
+        (map branch_of next.old.items) (map branch_of next.new.items)) }
+{
+    for o in 0..game.observations() {
+        push_steps_after(game, plays, own, a, o, weights, shares, next)?;
+    }
+    Ok(())
+}
+
+/// The steps of all own actions and observations in order: the weight of the own action, shared by what the nodes were
+/// chosen with there.
+///
+/// # Errors
+///
+/// Where no memory is to be had.
+pub fn steps_of(
+    alloc: Global,
+    game: &Game,
+    plays: &Plays,
+    own: &[i128],
+    nodes: u32,
+) -> Result<Vec<Step>, AllocError>
+    requires own { IsMix game.now.shape.own_actions own.now }
+    requires some { 1 ≤ nodes }
+    requires few { nodes ≤ 1024 }
+    ensures { IfOk result (λ next.
+        AreForPairs game.now (λ a o. AreStepsFor nodes a o (at own.now a)) (map branch_of next.items)) }
+{
+    let mut weights = vec![in alloc; 0; nodes as usize]?;
+    let mut shares = vec![in alloc; 0; nodes as usize]?;
+    let mut next = Vec::new(alloc);
+    for a in 0..game.own_actions() {
+        push_steps_of(
+            game,
+            plays,
+            own,
+            a,
+            &mut weights,
+            &mut shares,
+            &mut next,
+        )?;
+    }
+    Ok(next)
+}
