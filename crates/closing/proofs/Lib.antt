@@ -5,3 +5,5 @@ pub mod Kept
 pub mod Clamped
 pub mod Stepping
 pub mod ForPairs
+pub mod Wishing
+pub mod RestMasses

@@ -1,12 +1,12 @@
 -- The parts of plans that are made after each own action and observation.
-use Rattle.std.specs.Prelude.{ℕ, ℤ, pos, List, [], ◌∷◌, flat_map, length, map, ◌++◌, ◌≡◌, ◌<◌, ◌×◌}
+use Rattle.std.specs.Prelude.{ℕ, ℤ, pos, Bool, List, [], ◌∷◌, filter, flat_map, length, map, not, slice_index, ◌++◌, ◌+◌, ◌≡◌, ◌<◌, ◌≤◌}
 use Rattle.std.specs.List.{AllByRecursion}
 use Rattle.scaled_num.specs.Share.{at}
 use Rattle.scaled_num.specs.Sums.{below, total}
 use Rattle.game_model.specs.Branches.{Branch, IsBranchBefore, mix_total}
 use Rattle.game_model.specs.Game.{GameData, IsWithin}
 use Rattle.point_set.specs.Points.{PointData}
-use Rattle.point_set.specs.Split.{IsWanted}
+use Rattle.point_set.specs.Split.{IsWanted, is_corner, most_others, most_wish}
 use Rattle.stage_game.specs.Masses.{over_pairs}
 
 -- each branch is before all that follow
@@ -55,3 +55,28 @@ numbered_one a o weights i = record { own = a; seen = o; member = i; weight = at
 
 abbrev pub numbered : ℕ → ℕ → List ℤ → List Branch
 numbered a o weights = map (numbered_one a o weights) (below (length weights))
+
+-- a branch whose member is no current corner
+abbrev pub is_other : List ℕ → Branch → Bool
+is_other corners b = not (is_corner (λ s. slice_index corners s) (length corners) b.member)
+
+-- wishes for some of the members below a count, of which so many are no corner
+pub record AreWished (corners : List ℕ) (a o count others : ℕ) (wishes : List Branch) : Type 0 where
+  pub after : AreAfter a o wishes
+  pub members : AllByRecursion (λ b. b.member < count) wishes
+  pub weights : AllByRecursion (λ b. IsWithin (pos 0) (pos most_wish) b.weight) wishes
+  pub few : length (filter (is_other corners) wishes) ≤ others
+  pub most : others ≤ most_others
+  pub none : count ≡ 0 → others ≡ 0
+  pub some : 0 < count → 1 ≤ length wishes
+
+-- the member k is wished or not, and then so many are no corner
+pub record TakesWish (corners : List ℕ) (a o k others later : ℕ) (old new : List Branch) : Type 0 where
+  pub added : List Branch
+  pub same : new ≡ old ++ added
+  pub right : (before : List Branch) → AreWished corners a o k others before → AreWished corners a o (k + 1) later (before ++ added)
+
+-- what is left of a mass: in each place from 0 to what was there
+pub record IsRest (old new : List ℤ) : Type 0 where
+  pub long : length new ≡ length old
+  pub each : (s : ℕ) → s < length old → IsWithin (pos 0) (at old s) (at new s)

@@ -6,6 +6,7 @@ mod closer;
 mod export;
 mod keeps;
 mod going;
+mod matching;
 mod places;
 mod regrets;
 mod rounds;
@@ -14,5 +15,8 @@ mod steps;
 mod sums;
 mod sweeps;
 mod visits;
+mod teeth;
+mod wishes;
 
 pub use closer::{MOST_ROUNDS, close};
+pub use matching::{matched_node, matched_point};

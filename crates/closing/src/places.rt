@@ -1,6 +1,6 @@
 //! Places in the tables of matching, which have room for the largest game.
 
-ghost use Rattle.std.specs.Prelude.{◌<◌};
+ghost use Rattle.std.specs.Prelude.{length, ◌<◌, ◌≡◌};
 
 use game_model::{Game, law_game};
 
@@ -33,4 +33,13 @@ pub fn end_place(pair: usize, to: usize) -> usize
     ensures { result < 768 }
 {
     pair * 16 + to
+}
+
+/// Adds to the number of a place, where there is such a place.
+pub fn add_at(numbers: &mut [i128], place: u32, more: i128)
+    ensures { length numbers.new ≡ length numbers.old }
+{
+    if (place as usize) < numbers.len() {
+        numbers[place as usize] = numbers[place as usize].saturating_add(more);
+    }
 }

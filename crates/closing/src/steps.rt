@@ -7,7 +7,7 @@ ghost use Rattle.scaled_num.specs.Share.{at};
 ghost use Rattle.stage_game.specs.AdviceData.{has_weight};
 ghost use Rattle.std.specs.Prelude.{IfOk, filter, length, map, slice_index, ◌++◌, ◌<◌, ◌≡◌, ◌≤◌};
 
-use crate::places::{OWN_PLACES, PAIRS, Weights, pair_place};
+use crate::places::{OWN_PLACES, PAIRS, Weights, add_at, pair_place};
 use crate::sharing::share;
 use alpha_set::Step;
 use game_model::{Game, law_game};
@@ -59,15 +59,6 @@ impl Plays {
             let more = self.mixes[round][a as usize];
             add_at(weights, self.nodes[round][pair], more);
         }
-    }
-}
-
-/// Adds to the number of a place, where there is such a place.
-fn add_at(numbers: &mut [i128], place: u32, more: i128)
-    ensures { length numbers.new ≡ length numbers.old }
-{
-    if (place as usize) < numbers.len() {
-        numbers[place as usize] = numbers[place as usize].saturating_add(more);
     }
 }
 

@@ -23,7 +23,7 @@ loop-a-init c = record {
 
 pub loop-a-preserved : goal.loop-a-preserved
 loop-a-preserved c =
-    let same : length c.loop-a.weights.items ≡ c.args.nodes = c.loop-a.invariant.weights in
+    let same : length c.deref_mut.result.now ≡ c.args.nodes = omega (arith, ap length c.deref_mut.ensures.value, c.loop-a.invariant.weights) in
     let added = c.in_ok-push_steps_of.ensures.steps in
     record {
       weights = written-long c.push_steps_of.new.weights c.loop-a.weights.items c.loop-a.weights.len c.args.nodes (omega arith) (omega arith);
