@@ -162,3 +162,7 @@ takes-other corners a o k others old new b own seen member weight less same = re
   same = same;
   right = λ before are. wished-other corners a o k others before b own seen member weight less are;
 }
+
+pub some-others : (k others : ℕ) → (k ≡ 0 → others ≡ 0) → 8 ≤ others → 0 < k
+some-others zero others h l = let none : others ≡ 0 = h refl in absurd (omega arith)
+some-others (suc k) others h l = omega arith

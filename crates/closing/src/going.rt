@@ -80,7 +80,14 @@ pub fn going_by_nodes(game: &Game, belief: &Belief, mixes: &Mixes, nodes: &NodeS
 }
 
 /// Keeps what going on is worth by the nodes after an own action.
-fn by_nodes_after(game: &Game, belief: &Belief, mixes: &Mixes, nodes: &NodeSet, a: u32, going: &mut Going)
+fn by_nodes_after(
+    game: &Game,
+    belief: &Belief,
+    mixes: &Mixes,
+    nodes: &NodeSet,
+    a: u32,
+    going: &mut Going,
+)
     requires belief { BeliefFits game.now belief.now }
     requires nodes { NodesServe game.now nodes.now.members }
     requires mixes { MixesFit game.now mixes.now }
@@ -92,7 +99,15 @@ fn by_nodes_after(game: &Game, belief: &Belief, mixes: &Mixes, nodes: &NodeSet, 
 }
 
 /// Keeps what going on is worth by the nodes after an own action and an observation.
-fn by_nodes(game: &Game, belief: &Belief, mixes: &Mixes, nodes: &NodeSet, a: u32, o: u32, going: &mut Going)
+fn by_nodes(
+    game: &Game,
+    belief: &Belief,
+    mixes: &Mixes,
+    nodes: &NodeSet,
+    a: u32,
+    o: u32,
+    going: &mut Going,
+)
     requires belief { BeliefFits game.now belief.now }
     requires nodes { NodesServe game.now nodes.now.members }
     requires mixes { MixesFit game.now mixes.now }
@@ -135,7 +150,14 @@ pub fn going_by_points(game: &Game, belief: &Belief, mixes: &Mixes, points: &Poi
 }
 
 /// Keeps what going on is worth by the points after an own action.
-fn by_points_after(game: &Game, belief: &Belief, mixes: &Mixes, points: &PointSet, a: u32, going: &mut Going)
+fn by_points_after(
+    game: &Game,
+    belief: &Belief,
+    mixes: &Mixes,
+    points: &PointSet,
+    a: u32,
+    going: &mut Going,
+)
     requires belief { BeliefFits game.now belief.now }
     requires points { PointsServe game.now points.now.members }
     requires mixes { MixesFit game.now mixes.now }
@@ -148,7 +170,15 @@ fn by_points_after(game: &Game, belief: &Belief, mixes: &Mixes, points: &PointSe
 
 /// Keeps what going on is worth by the points after an own action and an observation: the sawtooth bound of the mass,
 /// and the slopes of the best point there.
-fn by_points(game: &Game, belief: &Belief, mixes: &Mixes, points: &PointSet, a: u32, o: u32, going: &mut Going)
+fn by_points(
+    game: &Game,
+    belief: &Belief,
+    mixes: &Mixes,
+    points: &PointSet,
+    a: u32,
+    o: u32,
+    going: &mut Going,
+)
     requires belief { BeliefFits game.now belief.now }
     requires points { PointsServe game.now points.now.members }
     requires mixes { MixesFit game.now mixes.now }

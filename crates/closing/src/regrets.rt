@@ -213,9 +213,14 @@ fn own_gain(game: &Game, belief: &Belief, mixes: &Mixes, going: &Going, a: u32) 
 {
     let (over, under) = game.discount();
     let scale = game.row_total().saturating_mul(under);
-    let now = earned(game, belief, mixes, a).saturating_mul(UNITS).saturating_mul(scale);
+    let now = earned(game, belief, mixes, a)
+        .saturating_mul(UNITS)
+        .saturating_mul(scale);
     let later = going.worth_after(game, a).saturating_mul(over);
-    let total = belief.total().saturating_mul(MIX_TOTAL).saturating_mul(scale);
+    let total = belief
+        .total()
+        .saturating_mul(MIX_TOTAL)
+        .saturating_mul(scale);
     ratio(now.saturating_add(later), total)
 }
 
@@ -283,7 +288,10 @@ fn cost_at(game: &Game, going: &Going, s: u32, a: u32, c: u32, scale: i128) -> i
     requires action { c < game.now.shape.informed_actions }
 {
     let (over, _) = game.discount();
-    let now = game.reward(s, a, c).saturating_mul(UNITS).saturating_mul(scale);
+    let now = game
+        .reward(s, a, c)
+        .saturating_mul(UNITS)
+        .saturating_mul(scale);
     let mut later: i128 = 0;
     for landing in game.row(s, a, c) {
         let end = going.end(a, landing.seen, landing.to);

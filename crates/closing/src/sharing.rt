@@ -78,7 +78,11 @@ fn state_mix(game: &Game, weights: &Weights, mix: &mut [i128])
 /// # Errors
 ///
 /// Where no memory is to be had.
-pub fn informed_mixes(alloc: Global, game: &Game, weights: &[Weights; MOST_STATES]) -> Result<Mixes, AllocError>
+pub fn informed_mixes(
+    alloc: Global,
+    game: &Game,
+    weights: &[Weights; MOST_STATES],
+) -> Result<Mixes, AllocError>
     ensures { IfOk result (λ mixes. MixesFit game.now mixes) }
 {
     law_game(game);

@@ -161,15 +161,7 @@ pub fn steps_of(
     let mut shares = vec![in alloc; 0; nodes as usize]?;
     let mut next = Vec::new(alloc);
     for a in 0..game.own_actions() {
-        push_steps_of(
-            game,
-            plays,
-            own,
-            a,
-            &mut weights,
-            &mut shares,
-            &mut next,
-        )?;
+        push_steps_of(game, plays, own, a, &mut weights, &mut shares, &mut next)?;
     }
     Ok(next)
 }

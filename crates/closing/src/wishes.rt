@@ -204,15 +204,7 @@ pub fn wishes_of(
     let mut weights = vec![in alloc; 0; points.len() as usize]?;
     let mut wishes = Vec::new(alloc);
     for a in 0..game.own_actions() {
-        push_wishes_of(
-            game,
-            belief,
-            mixes,
-            points,
-            a,
-            &mut weights,
-            &mut wishes,
-        )?;
+        push_wishes_of(game, belief, mixes, points, a, &mut weights, &mut wishes)?;
     }
     Ok(wishes)
 }

@@ -3,7 +3,7 @@ use Rattle.std.specs.Int.{w128}
 use Rattle.std.proofs.lemmas.List.{map-append}
 use Rattle.game_model.specs.Branches.{Branch, branch_of}
 use Rattle.game_model.specs.declared.branches.Branch.{Branch as Share}
-use Rattle.closing.proofs.Wishing.{takes-corner, takes-none, takes-other}
+use Rattle.closing.proofs.Wishing.{some-others, takes-corner, takes-none, takes-other}
 use Rattle.closing.proofs.wishes.push_wish.Goals as goal
 
 pub returns-then-k-gt0-clause-wish : goal.returns-then-k-gt0-clause-wish
@@ -20,7 +20,7 @@ returns-then-is_current-clause-wish c =
 
 pub returns-then-others-ge-MOST_OTHERS-clause-wish : goal.returns-then-others-ge-MOST_OTHERS-clause-wish
 returns-then-others-ge-MOST_OTHERS-clause-wish c =
-    takes-none c.args.corners.now c.args.a c.args.o c.args.k c.args.others (map branch_of c.args.wishes.now.items) (omega (arith, c.requires.first, c.if-others-ge-MOST_OTHERS.true))
+    takes-none c.args.corners.now c.args.a c.args.o c.args.k c.args.others (map branch_of c.args.wishes.now.items) (some-others c.args.k c.args.others c.requires.first c.if-others-ge-MOST_OTHERS.true)
 
 pub returns-clause-wish : goal.returns-clause-wish
 returns-clause-wish c =
