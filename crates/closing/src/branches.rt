@@ -176,7 +176,11 @@ fn share_of(game: &Game, from: &Open, own: i128, mass: &[i128]) -> i128
 {
     law_game(game);
     let (over, under) = game.discount();
-    let whole = from.belief.total().saturating_mul(MIX_TOTAL).saturating_mul(game.row_total());
+    let whole = from
+        .belief
+        .total()
+        .saturating_mul(MIX_TOTAL)
+        .saturating_mul(game.row_total());
     let played = from.share.saturating_mul(own) / MIX_TOTAL;
     let seen = quotient(played.saturating_mul(sum(mass)), whole);
     quotient(seen.saturating_mul(over), under)

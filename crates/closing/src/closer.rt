@@ -9,11 +9,9 @@ ghost use Rattle.std.specs.Prelude.{IfOk, ◌↔◌, ◌≡◌, ◌≤◌};
 
 use crate::export::exported;
 use crate::rounds::round;
-use backup::reserve_solver;
 use controller::{Certificate, Outcome};
 use game_model::Game;
 use scaled_num::Fraction;
-use simplex::Solver;
 use std::alloc::{AllocError, Global};
 
 /// The most rounds.
@@ -83,11 +81,9 @@ fn improved(
     requires ends { EndsByGap certificate }
     ensures { IfOk result (IsBetter game.now certificate) }
 {
-    let mut solver = Solver::new(alloc);
-    reserve_solver(&mut solver, game)?;
     let mut best = certificate;
     for _ in 0..rounds {
-        best = round(alloc, &mut solver, game, best)?;
+        best = round(alloc, game, best)?;
         if is_closed(&best) {
             return Ok(best);
         }

@@ -4,8 +4,8 @@
 mod branches;
 mod closer;
 mod export;
-mod keeps;
 mod going;
+mod keeps;
 mod matching;
 mod places;
 mod regrets;
@@ -14,8 +14,8 @@ mod sharing;
 mod steps;
 mod sums;
 mod sweeps;
-mod visits;
 mod teeth;
+mod visits;
 mod wishes;
 
 pub use closer::{MOST_ROUNDS, close};

@@ -1,6 +1,5 @@
 //! One round of closing: a path of visits from the first belief on, and sweeps.
 
-ghost use Rattle.backup.specs.Rooms.{HasRooms};
 ghost use Rattle.closing.specs.Better.{AreNodes, ArePoints, NodesGoOn, PointsGoOn};
 ghost use Rattle.closing.specs.Closer.{IsBetter};
 ghost use Rattle.controller.specs.Certificates.{CertificateStands};
@@ -16,7 +15,6 @@ use belief::Belief;
 use controller::Certificate;
 use game_model::{Game, law_game};
 use point_set::PointSet;
-use simplex::Solver;
 use std::alloc::{AllocError, Global};
 
 /// How many beliefs a round visits at most on its way from the first one.
@@ -31,18 +29,15 @@ const BUDGET: u32 = 64;
 /// Where no memory is to be had.
 pub fn round(
     alloc: Global,
-    solver: &mut Solver,
     game: &Game,
     certificate: Certificate,
 ) -> Result<Certificate, AllocError>
-    requires stands { CertificateStands game.now certificate }
-    requires rooms { HasRooms game.now solver.old }
-    ensures rooms { HasRooms game.now solver.new }
-    ensures better { IfOk result (IsBetter game.now certificate) }
+    requires { CertificateStands game.now certificate }
+    ensures { IfOk result (IsBetter game.now certificate) }
 {
     law_game(game);
     let mut next = certificate;
-    visit_all(alloc, solver, game, &mut next.nodes, &mut next.points)?;
+    visit_all(alloc, game, &mut next.nodes, &mut next.points)?;
     sweep_nodes(game, &mut next.nodes);
     sweep_points(game, &mut next.points);
     Ok(next.concluded(game))
@@ -51,31 +46,27 @@ pub fn round(
 /// Makes the visits of a round.
 fn visit_all(
     alloc: Global,
-    solver: &mut Solver,
     game: &Game,
     nodes: &mut NodeSet,
     points: &mut PointSet,
 ) -> Result<(), AllocError>
     requires nodes { AreNodes game.now nodes.old.members }
     requires points { ArePoints game.now points.old.members }
-    requires rooms { HasRooms game.now solver.old }
-    ensures rooms { HasRooms game.now solver.new }
     ensures nodes { NodesGoOn game.now nodes.old.members nodes.new.members }
     ensures points { PointsGoOn game.now points.old.members points.new.members }
 {
     law_game(game);
     let mut frontier = Frontier::of(alloc, game)?;
-    explore(alloc, solver, game, &mut frontier, nodes, points)?;
+    explore(alloc, game, &mut frontier, nodes, points)?;
     for s in 0..game.states() {
-        visit_again(alloc, solver, game, &Belief::corner(game.states(), s), points)?;
+        visit_again(alloc, game, &Belief::corner(game.states(), s), points)?;
     }
-    go_back(alloc, solver, game, &frontier.visited, points)
+    go_back(alloc, game, &frontier.visited, points)
 }
 
 /// Visits the open beliefs, the one of greatest gap first, until none is open or the budget is used.
 fn explore(
     alloc: Global,
-    solver: &mut Solver,
     game: &Game,
     frontier: &mut Frontier,
     nodes: &mut NodeSet,
@@ -83,14 +74,12 @@ fn explore(
 ) -> Result<(), AllocError>
     requires nodes { AreNodes game.now nodes.old.members }
     requires points { ArePoints game.now points.old.members }
-    requires rooms { HasRooms game.now solver.old }
-    ensures rooms { HasRooms game.now solver.new }
     ensures nodes { NodesGoOn game.now nodes.old.members nodes.new.members }
     ensures points { PointsGoOn game.now points.old.members points.new.members }
 {
     for _ in 0..BUDGET {
         match frontier.take() {
-            Some(open) => visit_open(alloc, solver, game, frontier, open, nodes, points)?,
+            Some(open) => visit_open(alloc, game, frontier, open, nodes, points)?,
             None => return Ok(()),
         }
     }
@@ -100,7 +89,6 @@ fn explore(
 /// Visits an open belief, and opens those that follow it.
 fn visit_open(
     alloc: Global,
-    solver: &mut Solver,
     game: &Game,
     frontier: &mut Frontier,
     open: Open,
@@ -109,8 +97,6 @@ fn visit_open(
 ) -> Result<(), AllocError>
     requires nodes { AreNodes game.now nodes.old.members }
     requires points { ArePoints game.now points.old.members }
-    requires rooms { HasRooms game.now solver.old }
-    ensures rooms { HasRooms game.now solver.new }
     ensures nodes { NodesGoOn game.now nodes.old.members nodes.new.members }
     ensures points { PointsGoOn game.now points.old.members points.new.members }
 {
@@ -118,7 +104,7 @@ fn visit_open(
     if !is_of_game(game, &open.belief) {
         return Ok(());
     }
-    let seen = visit(alloc, solver, game, &open.belief, nodes, points)?;
+    let seen = visit(alloc, game, &open.belief, nodes, points)?;
     frontier.add_branches(game, &open, &seen, nodes, points)?;
     frontier.visited.reserve(1)?;
     frontier.visited.push_reserved(open.belief);
@@ -135,19 +121,16 @@ fn is_of_game(game: &Game, belief: &Belief) -> bool
 /// Visits beliefs once more for points, from the last to the first.
 fn go_back(
     alloc: Global,
-    solver: &mut Solver,
     game: &Game,
     beliefs: &[Belief],
     points: &mut PointSet,
 ) -> Result<(), AllocError>
-    requires points { ArePoints game.now points.old.members }
-    requires rooms { HasRooms game.now solver.old }
-    ensures rooms { HasRooms game.now solver.new }
-    ensures points { PointsGoOn game.now points.old.members points.new.members }
+    requires { ArePoints game.now points.old.members }
+    ensures { PointsGoOn game.now points.old.members points.new.members }
 {
     let count = beliefs.len();
     for i in 0..count {
-        visit_again(alloc, solver, game, &beliefs[count - 1 - i], points)?;
+        visit_again(alloc, game, &beliefs[count - 1 - i], points)?;
     }
     Ok(())
 }
@@ -155,18 +138,15 @@ fn go_back(
 /// Visits a belief for a point.
 fn visit_again(
     alloc: Global,
-    solver: &mut Solver,
     game: &Game,
     belief: &Belief,
     points: &mut PointSet,
 ) -> Result<(), AllocError>
-    requires points { ArePoints game.now points.old.members }
-    requires rooms { HasRooms game.now solver.old }
-    ensures rooms { HasRooms game.now solver.new }
-    ensures points { PointsGoOn game.now points.old.members points.new.members }
+    requires { ArePoints game.now points.old.members }
+    ensures { PointsGoOn game.now points.old.members points.new.members }
 {
     if is_of_game(game, belief) {
-        visit_points(alloc, solver, game, belief, points)?;
+        visit_points(alloc, game, belief, points)?;
     }
     Ok(())
 }

@@ -1,7 +1,6 @@
 //! Visits: the node and the point that are found at a belief, kept where they help.
 
 ghost use Rattle.alpha_set.specs.Nodes.{IsMix};
-ghost use Rattle.backup.specs.Rooms.{HasRooms};
 ghost use Rattle.closing.specs.Better.{AreNodes, ArePoints, NodesGoOn, PointsGoOn};
 ghost use Rattle.closing.specs.Seen.{IsSeen};
 ghost use Rattle.stage_game.specs.Asked.{BeliefFits};
@@ -9,12 +8,11 @@ ghost use Rattle.stage_game.specs.Fits.{MixesFit};
 ghost use Rattle.std.specs.Prelude.{IfOk};
 
 use crate::keeps::{keep_node, keep_point};
+use crate::matching::{matched_node, matched_point};
 use alpha_set::NodeSet;
-use backup::{lower_visit, upper_visit};
 use belief::{Belief, Mixes};
 use game_model::{Game, law_game};
 use point_set::PointSet;
-use simplex::Solver;
 use std::alloc::{AllocError, Global};
 
 /// How both players would play at a belief.
@@ -33,7 +31,6 @@ pub struct Seen {
 /// Where no memory is to be had.
 pub fn visit(
     alloc: Global,
-    solver: &mut Solver,
     game: &Game,
     belief: &Belief,
     nodes: &mut NodeSet,
@@ -42,56 +39,48 @@ pub fn visit(
     requires belief { BeliefFits game.now belief.now }
     requires nodes { AreNodes game.now nodes.old.members }
     requires points { ArePoints game.now points.old.members }
-    requires rooms { HasRooms game.now solver.old }
-    ensures rooms { HasRooms game.now solver.new }
     ensures nodes { NodesGoOn game.now nodes.old.members nodes.new.members }
     ensures points { PointsGoOn game.now points.old.members points.new.members }
     ensures seen { IfOk result (IsSeen game.now) }
 {
     law_game(game);
-    let informed = visit_nodes(alloc, solver, game, belief, nodes)?;
-    let own = visit_points(alloc, solver, game, belief, points)?;
+    let informed = visit_nodes(alloc, game, belief, nodes)?;
+    let own = visit_points(alloc, game, belief, points)?;
     Ok(Seen { informed, own })
 }
 
 /// Makes a node at a belief, keeps it where it helps, and answers the mixes of the informed player against it.
 fn visit_nodes(
     alloc: Global,
-    solver: &mut Solver,
     game: &Game,
     belief: &Belief,
     nodes: &mut NodeSet,
 ) -> Result<Mixes, AllocError>
     requires belief { BeliefFits game.now belief.now }
     requires nodes { AreNodes game.now nodes.old.members }
-    requires rooms { HasRooms game.now solver.old }
-    ensures rooms { HasRooms game.now solver.new }
     ensures nodes { NodesGoOn game.now nodes.old.members nodes.new.members }
     ensures mixes { IfOk result (MixesFit game.now) }
 {
     law_game(game);
-    let (advice, node) = lower_visit(alloc, solver, game, belief, nodes)?;
+    let (informed, node) = matched_node(alloc, game, belief, nodes)?;
     keep_node(game, nodes, belief, node)?;
-    Ok(advice.informed)
+    Ok(informed)
 }
 
 /// Makes a point at a belief, keeps it where it helps, and answers the mix of player one against it.
 pub fn visit_points(
     alloc: Global,
-    solver: &mut Solver,
     game: &Game,
     belief: &Belief,
     points: &mut PointSet,
 ) -> Result<Vec<i128>, AllocError>
     requires belief { BeliefFits game.now belief.now }
     requires points { ArePoints game.now points.old.members }
-    requires rooms { HasRooms game.now solver.old }
-    ensures rooms { HasRooms game.now solver.new }
     ensures points { PointsGoOn game.now points.old.members points.new.members }
     ensures own { IfOk result (λ own. IsMix game.now.shape.own_actions own.items) }
 {
     law_game(game);
-    let (advice, point) = upper_visit(alloc, solver, game, belief, points)?;
+    let (own, point) = matched_point(alloc, game, belief, points)?;
     keep_point(game, points, point)?;
-    Ok(advice.own)
+    Ok(own)
 }

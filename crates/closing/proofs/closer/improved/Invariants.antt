@@ -1,6 +1,5 @@
-use Rattle.backup.specs.Rooms.{HasRooms}
 use Rattle.closing.specs.Closer.{IsBetter}
 use Rattle.closing.proofs.closer.improved.Given as goal
 
 abbrev pub invariant-loop : goal.invariant-loop
-invariant-loop l = HasRooms l.game l.solver × IsBetter l.game l.fn.certificate l.best
+invariant-loop l = IsBetter l.game l.fn.certificate l.best

@@ -1,6 +1,5 @@
-use Rattle.backup.specs.Rooms.{HasRooms}
 use Rattle.closing.specs.Better.{PointsGoOn}
 use Rattle.closing.proofs.rounds.go_back.Given as goal
 
 abbrev pub invariant-loop-i : goal.invariant-loop-i
-invariant-loop-i l = HasRooms l.game l.solver × PointsGoOn l.game l.fn.points.members l.points.members
+invariant-loop-i l = PointsGoOn l.game l.fn.points.members l.points.members

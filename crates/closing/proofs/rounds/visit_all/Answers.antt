@@ -3,7 +3,6 @@ use Rattle.closing.proofs.rounds.visit_all.Goals as goal
 
 pub loop-s-preserved : goal.loop-s-preserved
 loop-s-preserved c = (
-  c.in_ok-visit_again.ensures.rooms,
-  c.loop-s.invariant.1,
-  points-through c.args.game.now c.args.points.now.members c.loop-s.points.members c.visit_again.new.points.members c.loop-s.invariant.2 c.in_ok-visit_again.ensures.points,
+  c.loop-s.invariant.0,
+  points-through c.args.game.now c.args.points.now.members c.loop-s.points.members c.visit_again.new.points.members c.loop-s.invariant.1 c.in_ok-visit_again.ensures,
 )
