@@ -2,7 +2,7 @@
 use Rattle.std.proofs.Common.{◌≡◌, ◌⊎◌, ℕ, ◌<◌, ◌≤◌, List, [], length, Some, None, Bool, true, false, refl, sym, ◌∙◌, arith, inl, inr}
 use Rattle.std.specs.Option.{option_map}
 use Rattle.osposg_cli.specs.declared.words.Command.{Command}
-use Rattle.osposg_cli.specs.declared.words.Command.TheVariants.{Check, Close, Floor, Gen, Show, Solve, Summary}
+use Rattle.osposg_cli.specs.declared.words.Command.TheVariants.{Check, Close, Floor, Gen, Show, Simulate, Solve, Summary}
 use Rattle.osposg_cli.specs.Answer.{Answers, AnswersAreOne, AsksNoSearch, HasOneAnswer, InputsAreAnswered, IsWork, ReadsInput, SolvedIsChecked, WorkIsDefined}
 use Rattle.osposg_cli.specs.Check.{AnswersCheck}
 use Rattle.osposg_cli.specs.Close.{CloseIsTold}
@@ -12,6 +12,7 @@ use Rattle.osposg_cli.specs.Generate.{GenIsAnswered, GenIsDefined}
 use Rattle.osposg_cli.specs.Inputs.{most_input}
 use Rattle.osposg_cli.specs.Refusals.{words_refused}
 use Rattle.osposg_cli.specs.Show.{AnswersShow}
+use Rattle.osposg_cli.specs.Simulate.{SimulateIsAnswered, SimulateIsDefined}
 use Rattle.osposg_cli.specs.Solve.{MakesCertificate, SolveIsDefined}
 use Rattle.osposg_cli.specs.Summary.{SummaryIsDefined}
 use Rattle.osposg_cli.specs.Words.{gap_data, reads_input}
@@ -22,14 +23,15 @@ use Rattle.game_text.specs.Laws.{AnyRest}
 use Rattle.std.proofs.lemmas.Bool.{cases_order}
 
 -- by command
-pub work-defined : IsDefined AnswersFloor → SolveIsDefined → IsDefined AnswersCheck → CloseIsTold → IsDefined AnswersShow → GenIsDefined → SummaryIsDefined → WorkIsDefined
-work-defined floor solve check close show gen summary = record { one = once; told = told }
+pub work-defined : IsDefined AnswersFloor → SolveIsDefined → IsDefined AnswersCheck → CloseIsTold → IsDefined AnswersShow → GenIsDefined → SummaryIsDefined → SimulateIsDefined → WorkIsDefined
+work-defined floor solve check close show gen summary plays = record { one = once; told = told }
   where
     once : (command : Command) → HasOneAnswer (Some command) → (input : List ℕ) → IsOne (IsWork command input)
     once Floor one = floor.one
     once (Solve trials gap) one = (solve trials (gap_data gap)).one
     once Check one = check.one
     once (Close rounds gap) one = absurd one
+    once (Simulate seed stages rival) one = (plays seed stages rival).one
     once Show one = show.one
     once (Gen number size) one = (gen number size).one
     once (Summary number size trials gap) one = (summary number size trials (gap_data gap)).one
@@ -39,18 +41,20 @@ work-defined floor solve check close show gen summary = record { one = once; tol
     told (Solve trials gap) = (solve trials (gap_data gap)).told
     told Check = check.told
     told (Close rounds gap) = close rounds (option_map gap_data gap)
+    told (Simulate seed stages rival) = (plays seed stages rival).told
     told Show = show.told
     told (Gen number size) = (gen number size).told
     told (Summary number size trials gap) = (summary number size trials (gap_data gap)).told
 
-pub work-some : AreAnswered AnswersFloor → AreAnswered AnswersCheck → AreAnswered AnswersShow → GenIsAnswered → (command : Command) → AsksNoSearch (Some command) → AreAnswered (IsWork command)
-work-some floor check show gen Floor none = floor
-work-some floor check show gen (Solve trials gap) none = absurd none
-work-some floor check show gen Check none = check
-work-some floor check show gen (Close rounds gap) none = absurd none
-work-some floor check show gen Show none = show
-work-some floor check show gen (Gen number size) none = λ input. gen number size
-work-some floor check show gen (Summary number size trials gap) none = absurd none
+pub work-some : AreAnswered AnswersFloor → AreAnswered AnswersCheck → AreAnswered AnswersShow → GenIsAnswered → SimulateIsAnswered → (command : Command) → AsksNoSearch (Some command) → AreAnswered (IsWork command)
+work-some floor check show gen plays Floor none = floor
+work-some floor check show gen plays (Solve trials gap) none = absurd none
+work-some floor check show gen plays Check none = check
+work-some floor check show gen plays (Close rounds gap) none = absurd none
+work-some floor check show gen plays (Simulate seed stages rival) none = plays seed stages rival
+work-some floor check show gen plays Show none = show
+work-some floor check show gen plays (Gen number size) none = λ input. gen number size
+work-some floor check show gen plays (Summary number size trials gap) none = absurd none
 
 -- whatever the command
 pub too-long : (n : ℕ) → most_input < n → n ≤ most_input → ⊥

@@ -9,7 +9,7 @@ use Rattle.hsvi_io.specs.Bytes.{GaveAll, Wrote}
 use Rattle.osposg_cli.specs.declared.status.Status.{Status}
 use Rattle.osposg_cli.specs.declared.status.Status.TheVariants.{Done, No, Open, GameRefused, CertRefused, WordsRefused, ReadFault, WriteFault, OutOfMemory, TooLong}
 use Rattle.osposg_cli.specs.declared.words.Command.{Command}
-use Rattle.osposg_cli.specs.declared.words.Command.TheVariants.{Check, Close, Floor, Gen, Show, Solve, Summary}
+use Rattle.osposg_cli.specs.declared.words.Command.TheVariants.{Check, Close, Floor, Gen, Show, Simulate, Solve, Summary}
 use Rattle.osposg_cli.specs.declared.words.Gap.{Gap}
 use Rattle.osposg_cli.specs.Close.{AnswersClose, ClosePromises, KeepsClose}
 use Rattle.osposg_cli.specs.Solve.{AnswersSolve, KeepsSolve, MakesCertificate, SolvePromises}
@@ -54,6 +54,7 @@ work_any Floor e input other status text h = absurd cc
 work_any (Solve trials gap) e input other status text h = absurd cc
 work_any Check e input other status text h = absurd cc
 work_any (Close rounds gap) e input other status text h = absurd cc
+work_any (Simulate seed stages rival) e input other status text h = absurd cc
 work_any Show e input other status text h = absurd cc
 work_any (Gen number size) e input other status text h = h
 work_any (Summary number size trials gap) e input other status text h = h

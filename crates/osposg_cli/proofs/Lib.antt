@@ -16,3 +16,4 @@ pub mod Solved
 pub mod Generated
 pub mod Summarised
 pub mod Closer
+pub mod Simulated

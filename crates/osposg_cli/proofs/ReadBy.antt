@@ -9,11 +9,12 @@ use Rattle.controller.specs.Certificates.{most_gap}
 use Rattle.option_words.specs.Options.{ArePlain, AreRead, AreRefused, IsPlain, Named, has_hyphen, is_among, options_of, values_read, values_under}
 use Rattle.osposg_cli.proofs.DigitValues.{digits_of-other}
 use Rattle.osposg_cli.specs.declared.words.Command.{Command}
-use Rattle.osposg_cli.specs.declared.words.Command.TheVariants.{Close, Solve, Summary}
+use Rattle.osposg_cli.specs.declared.words.Command.TheVariants.{Close, Simulate, Solve, Summary}
 use Rattle.osposg_cli.specs.declared.words.Gap.{Gap}
+use Rattle.simulate.specs.declared.parts.Rival.TheVariants.{Uniform}
 use Rattle.hsvi_trial.specs.Run.{most_trials}
 use Rattle.osposg_cli.specs.Options.{Values, said, said_once}
-use Rattle.osposg_cli.specs.Words.{close_names, close_of, own_gap_in, rounds_in, some_gap, digits_of, gap_in, gap_of, gap_over, gen_names, gen_of, is_slash, made_of, most_number, most_size, number_in, number_of, read_by, size_in, solve_names, solve_of, trials_in, with_names}
+use Rattle.osposg_cli.specs.Words.{most_plays, rival_in, rival_of, seed_in, simulate_names, simulate_of, stages_in, close_names, close_of, own_gap_in, rounds_in, some_gap, digits_of, gap_in, gap_of, gap_over, gen_names, gen_of, is_slash, made_of, most_number, most_size, number_in, number_of, read_by, size_in, solve_names, solve_of, trials_in, with_names}
 
 -- ---- what is read
 
@@ -116,6 +117,23 @@ close-plain values c e =
     (
       said-plain 100 (number_of 0 most_rounds) (values (codes "rounds")) rounds.0 (number-plain 0 most_rounds) rounds.1,
       (said-plain None some_gap (values (codes "gap")) gap.0 own-gap-plain gap.1, tt),
+    )
+
+rival-plain : SaysPlain rival_of
+rival-plain text = refl
+
+pub simulate-plain : TakesPlain simulate_names simulate_of
+unfolding simulate_of
+simulate-plain values c e =
+    let seed = some-then (λ (n : ℕ). option_and_then (λ (stages : ℕ). option_map (Simulate n stages) (rival_in values)) (stages_in values)) (seed_in values) c e in
+    let stages = some-then (λ (n : ℕ). option_map (Simulate seed.0 n) (rival_in values)) (stages_in values) c seed.2 in
+    let rival = some-map (Simulate seed.0 stages.0) (rival_in values) c stages.2 in
+    (
+      said-plain 0 (number_of 0 most_number) (values (codes "seed")) seed.0 (number-plain 0 most_number) seed.1,
+      (
+        said-plain 10 (number_of 1 most_plays) (values (codes "stages")) stages.0 (number-plain 1 most_plays) stages.1,
+        (said-plain Uniform rival_of (values (codes "rival")) rival.0 rival-plain rival.1, tt),
+      ),
     )
 
 made-plain : (values : Values) (trials gaps : List (List ℕ)) (number size : ℕ) (c : Command) → values (codes "trials") ≡ trials → values (codes "gap") ≡ gaps → made_of values trials gaps number size ≡ Some c →

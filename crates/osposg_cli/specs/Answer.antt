@@ -6,7 +6,7 @@ use Rattle.osposg_cli.specs.declared.status.Status.{Status}
 use Rattle.osposg_cli.specs.declared.status.Status.TheVariants.{Done, No, Open, GameRefused, CertRefused, WordsRefused, ReadFault, WriteFault, OutOfMemory, TooLong}
 use Rattle.osposg_cli.specs.declared.words.Command.{Command}
 use Rattle.osposg_cli.specs.declared.words.Gap.{Gap}
-use Rattle.osposg_cli.specs.declared.words.Command.TheVariants.{Check, Close, Floor, Gen, Show, Solve, Summary}
+use Rattle.osposg_cli.specs.declared.words.Command.TheVariants.{Check, Close, Floor, Gen, Show, Simulate, Solve, Summary}
 use Rattle.game_model.specs.Game.{GameData}
 use Rattle.game_text.specs.Text.{IsTextOf, IsWholeTextOf}
 use Rattle.osposg_cli.specs.Check.{AnswersCheck}
@@ -17,6 +17,7 @@ use Rattle.osposg_cli.specs.Generate.{AnswersGen}
 use Rattle.osposg_cli.specs.Inputs.{most_input}
 use Rattle.osposg_cli.specs.Refusals.{words_refused}
 use Rattle.osposg_cli.specs.Show.{AnswersShow}
+use Rattle.osposg_cli.specs.Simulate.{AnswersSimulate}
 use Rattle.osposg_cli.specs.Solve.{AnswersSolve, MakesCertificate}
 use Rattle.osposg_cli.specs.Summary.{AnswersSummary}
 use Rattle.osposg_cli.specs.Words.{gap_data, reads_input}
@@ -27,6 +28,7 @@ IsWork Floor input status text = AnswersFloor input status text
 IsWork (Solve trials gap) input status text = AnswersSolve trials (gap_data gap) input status text
 IsWork Check input status text = AnswersCheck input status text
 IsWork (Close rounds gap) input status text = AnswersClose rounds (option_map gap_data gap) input status text
+IsWork (Simulate seed stages rival) input status text = AnswersSimulate seed stages rival input status text
 IsWork Show input status text = AnswersShow input status text
 IsWork (Gen number size) input status text = AnswersGen number size status text
 IsWork (Summary number size trials gap) input status text = AnswersSummary number size trials (gap_data gap) status text

@@ -12,3 +12,4 @@ pub mod Solve
 pub mod Generate
 pub mod Summary
 pub mod Close
+pub mod Simulate

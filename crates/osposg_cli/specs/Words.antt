@@ -9,8 +9,10 @@ use Rattle.closing.specs.Closer.{most_rounds}
 use Rattle.controller.specs.Certificates.{FractionData, IsGap, most_gap, most_gap_under}
 use Rattle.hsvi_trial.specs.Run.{most_trials}
 use Rattle.osposg_cli.specs.declared.words.Command.{Command}
-use Rattle.osposg_cli.specs.declared.words.Command.TheVariants.{Check, Close, Floor, Gen, Show, Solve, Summary}
+use Rattle.osposg_cli.specs.declared.words.Command.TheVariants.{Check, Close, Floor, Gen, Show, Simulate, Solve, Summary}
 use Rattle.osposg_cli.specs.declared.words.Gap.{Gap}
+use Rattle.simulate.specs.declared.parts.Rival.{Rival}
+use Rattle.simulate.specs.declared.parts.Rival.TheVariants.{Points, Uniform}
 use Rattle.option_words.specs.Options.{Named, is_among, options_of, values_under}
 use Rattle.osposg_cli.specs.Options.{Values, said, said_once}
 
@@ -117,6 +119,36 @@ made_of values (count ∷ counts) gaps number size = option_and_then (λ trials.
 unfoldable pub gen_of : Values → Option Command
 gen_of values = option_and_then (λ number. option_and_then (made_of values (values (codes "trials")) (values (codes "gap")) number) (size_in values)) (number_in values)
 
+-- the most stages that words ask for
+abbrev pub most_plays : ℕ
+most_plays = 64
+
+-- what a play draws: 0 where no option says it
+abbrev pub seed_in : Values → Option ℕ
+seed_in values = said 0 (number_of 0 most_number) (values (codes "seed"))
+
+-- how many stages it is to have: 10 where no option says it
+abbrev pub stages_in : Values → Option ℕ
+stages_in values = said 10 (number_of 1 most_plays) (values (codes "stages"))
+
+-- how the informed player plays: evenly where no option says it
+abbrev pub rival_of : List ℕ → Option Rival
+rival_of text =
+    if bytes_eq text (codes "uniform") then Some Uniform
+    else if bytes_eq text (codes "points") then Some Points
+    else None
+
+abbrev pub rival_in : Values → Option Rival
+rival_in values = said Uniform rival_of (values (codes "rival"))
+
+-- `simulate` with its options
+abbrev pub simulate_names : List (List ℕ)
+simulate_names = codes "seed" ∷ codes "stages" ∷ codes "rival" ∷ []
+
+unfoldable pub simulate_of : Values → Option Command
+simulate_of values =
+    option_and_then (λ seed. option_and_then (λ stages. option_map (Simulate seed stages) (rival_in values)) (stages_in values)) (seed_in values)
+
 -- the command that this word names, with the words after it as its options
 unfoldable pub command_from : List ℕ → List (List ℕ) → Option Command
 command_from word words =
@@ -125,6 +157,7 @@ command_from word words =
     else if bytes_eq word (codes "check") then read_by [] (λ values. Some Check) words
     else if bytes_eq word (codes "show") then read_by [] (λ values. Some Show) words
     else if bytes_eq word (codes "close") then read_by close_names close_of words
+    else if bytes_eq word (codes "simulate") then read_by simulate_names simulate_of words
     else if bytes_eq word (codes "gen") then read_by gen_names gen_of words
     else None
 

@@ -11,11 +11,13 @@ ghost use Rattle.osposg_cli.specs.Floor.{FloorPromises};
 ghost use Rattle.osposg_cli.specs.Generate.{GenPromises};
 ghost use Rattle.osposg_cli.specs.Inputs.{most_input};
 ghost use Rattle.osposg_cli.specs.Show.{ShowPromises};
+ghost use Rattle.osposg_cli.specs.Simulate.{SimulatePromises};
 ghost use Rattle.osposg_cli.specs.Solve.{MakesCertificate, SolvePromises};
 ghost use Rattle.osposg_cli.specs.Summary.{SummaryPromises};
 ghost use Rattle.osposg_cli.specs.Words.{IsWithinLimits, gap_data, named};
 ghost use Rattle.osposg_cli.specs.declared.words.Gap.{Gap};
-ghost use Rattle.osposg_cli.specs.declared.words.Command.TheVariants.{Check, Close, Floor, Gen, Show, Solve, Summary};
+ghost use Rattle.osposg_cli.specs.declared.words.Command.TheVariants.{Check, Close, Floor, Gen, Show, Simulate, Solve, Summary};
+ghost use Rattle.simulate.specs.declared.parts.Rival.{Rival};
 ghost use Rattle.std.specs.Option.{option_map};
 ghost use Rattle.std.specs.Prelude.{Option, IfErr, IfOk, IfSome, IsErrOf, List, OnOk, Some, ℕ, length, ◌≡◌, ◌≤◌};
 
@@ -24,7 +26,7 @@ use crate::inputs::MOST_INPUT;
 use crate::refusals::words_refused;
 use crate::status::Status;
 use crate::words::{Command, parse};
-use crate::{check, close, floor, generate, show, solve, summary};
+use crate::{check, close, floor, generate, plays, show, solve, summary};
 use hsvi_io::{ReadEnd, Sink, Source, read_all, write_all};
 use std::alloc::{AllocError, Global};
 
@@ -88,6 +90,12 @@ pub fn run<I: Source, O: Sink>(
         MakesCertificate result → IfSome (I.left input.old) (λ bytes.
         WroteOne (SolvePromises (gap_data gap) result bytes)
         (O.room output.old) (O.written output.old) (O.written output.new)) }
+    // What a play of `simulate` promises: the bytes spell a game and a certificate that stands, and the text is that of
+    // a play of the certificate's own plans, of positive weight, with its gain.
+    ensures simulate_plays { (seed stages : ℕ) (rival : Rival) → result ≡ Status.Done →
+        named words.now ≡ Some (Simulate seed stages rival) → IfSome (I.left input.old)
+        (λ bytes. WroteOne (SimulatePromises seed stages rival bytes)
+        (O.room output.old) (O.written output.old) (O.written output.new)) }
     // What the certificate of `close` promises: it is for the game that was read, its bounds are no worse than those of
     // the certificate that was read, it has the tolerance of the words or else that certificate's, is closed exactly at
     // Done, and both halves hold of it.
@@ -103,6 +111,7 @@ pub fn run<I: Source, O: Sink>(
     close::law_close();
     show::law_show();
     generate::law_generate();
+    plays::law_simulate();
     summary::law_summary();
     match answer_to(alloc, words, input) {
         Ok(answer) => match write_all(output, &answer.text) {
@@ -129,6 +138,7 @@ pub fn law_answers()
     close::law_close();
     show::law_show();
     generate::law_generate();
+    plays::law_simulate();
     summary::law_summary();
 }
 
@@ -173,6 +183,11 @@ fn work(alloc: Global, command: Command, bytes: &[u8]) -> Result<Answer, AllocEr
         Command::Close { rounds, gap } => close::work(alloc, rounds, gap, bytes),
         Command::Show => show::work(alloc, bytes),
         Command::Gen { number, size } => generate::work(alloc, number, size),
+        Command::Simulate {
+            seed,
+            stages,
+            rival,
+        } => plays::work(alloc, seed, stages, rival, bytes),
         Command::Summary {
             number,
             size,

@@ -15,6 +15,7 @@ mod generate;
 mod inputs;
 #[cfg(test)]
 mod lenient_tests;
+mod plays;
 mod refusals;
 mod show;
 mod solve;

@@ -6,7 +6,8 @@ ghost use Rattle.hsvi_trial.specs.Run.{most_trials};
 ghost use Rattle.option_words.specs.Options.{values_read};
 ghost use Rattle.osposg_cli.specs.Words.{IsWithinLimits, command_from, digits_of, gap_data, gap_in, gap_of, gen_names};
 ghost use Rattle.osposg_cli.specs.Words.{gen_of, most_size, named, number_in, number_of, read_by, reads_input, size_in};
-ghost use Rattle.osposg_cli.specs.Words.{close_names, close_of, own_gap_in, rounds_in, solve_names, solve_of, trials_in};
+ghost use Rattle.osposg_cli.specs.Words.{close_names, close_of, own_gap_in, rival_in, rival_of, rounds_in, seed_in};
+ghost use Rattle.osposg_cli.specs.Words.{simulate_names, simulate_of, solve_names, solve_of, stages_in, trials_in};
 ghost use Rattle.std.specs.Prelude.{IfOk, IfSome, Some, [], map, ◌≡◌, ◌≤◌};
 ghost use Rattle.std.specs.String.{string_bytes};
 
@@ -14,6 +15,7 @@ use clap::ArgMatches;
 use controller::{MOST_GAP, MOST_GAP_UNDER};
 use option_words::read;
 use scaled_num::Fraction;
+use simulate::Rival;
 use std::alloc::{AllocError, Global};
 
 /// A tolerance on the bounds of a certificate.
@@ -68,6 +70,15 @@ pub enum Command {
         /// 1 to 16.
         size: u32,
     },
+    /// A play of a certificate.
+    Simulate {
+        /// What is drawn.
+        seed: u64,
+        /// 1 to 64: how many stages are asked for.
+        stages: u32,
+        /// How the informed player plays.
+        rival: Rival,
+    },
     /// What solving a generated game comes to.
     Summary {
         /// Which game of its size.
@@ -113,6 +124,14 @@ const SOLVE: [&str; 2] = ["trials", "gap"];
 
 const GEN: [&str; 4] = ["number", "size", "trials", "gap"];
 
+/// The options of `simulate`.
+const SIMULATE: [&str; 3] = ["seed", "stages", "rival"];
+
+/// The most stages of a play, and how many there are where the words say nothing.
+const MOST_STAGES: u128 = 64;
+
+const STAGES: u32 = 10;
+
 /// The command that the words name, without the program's own name; `None` where they name none.
 #[tactic(auto, unfolding(crate::specs::Words::command_of))]
 pub fn parse(alloc: Global, words: &[String]) -> Result<Option<Command>, AllocError>
@@ -141,6 +160,8 @@ fn command_from(alloc: Global, word: &str, words: &[String]) -> Result<Option<Co
         alone(alloc, Command::Show, words)
     } else if word == "close" {
         close(alloc, words)
+    } else if word == "simulate" {
+        simulate(alloc, words)
     } else if word == "gen" {
         generate(alloc, words)
     } else {
@@ -263,6 +284,76 @@ fn own_gap_in(options: &ArgMatches<'_>) -> Option<Option<Gap>>
             None => None,
         },
         None => Some(None),
+    }
+}
+
+/// `simulate` with its options.
+fn simulate(alloc: Global, words: &[String]) -> Result<Option<Command>, AllocError>
+    ensures command { IfOk result (λ named. named ≡ read_by simulate_names simulate_of (map string_bytes words.now)) }
+    ensures within { IfOk result (λ named. IfSome named IsWithinLimits) }
+{
+    match read(alloc, SIMULATE.as_slice(), words)? {
+        Some(options) => Ok(simulate_of(&options)),
+        None => Ok(None),
+    }
+}
+
+/// `simulate` by the values of its options.
+#[tactic(auto, unfolding(crate::specs::Words::simulate_of))]
+fn simulate_of(options: &ArgMatches<'_>) -> Option<Command>
+    ensures command { result ≡ simulate_of (values_read options.now) }
+    ensures within { IfSome result IsWithinLimits }
+{
+    let seed = seed_in(options)?;
+    let stages = stages_in(options)?;
+    let rival = rival_in(options)?;
+    Some(Command::Simulate {
+        seed,
+        stages,
+        rival,
+    })
+}
+
+/// What a play draws.
+fn seed_in(options: &ArgMatches<'_>) -> Option<u64>
+    ensures { result ≡ seed_in (values_read options.now) }
+{
+    match options.get_str("seed") {
+        Some(text) => Some(number(text, 0, u64::MAX as u128)? as u64),
+        None => Some(0),
+    }
+}
+
+/// How many stages a play is to have.
+fn stages_in(options: &ArgMatches<'_>) -> Option<u32>
+    ensures { result ≡ stages_in (values_read options.now) }
+{
+    match options.get_str("stages") {
+        Some(text) => Some(number(text, 1, MOST_STAGES)? as u32),
+        None => Some(STAGES),
+    }
+}
+
+/// How the informed player plays.
+fn rival_in(options: &ArgMatches<'_>) -> Option<Rival>
+    ensures { result ≡ rival_in (values_read options.now) }
+{
+    match options.get_str("rival") {
+        Some(text) => rival_of(text),
+        None => Some(Rival::Uniform),
+    }
+}
+
+/// The rival of a word.
+fn rival_of(text: &str) -> Option<Rival>
+    ensures { result ≡ rival_of text.now }
+{
+    if text == "uniform" {
+        Some(Rival::Uniform)
+    } else if text == "points" {
+        Some(Rival::Points)
+    } else {
+        None
     }
 }
 

@@ -1,9 +1,10 @@
 use Rattle.std.proofs.Common.{rules}
 use Rattle.osposg_cli.proofs.Due.{complete_early, complete_whole, ends_whole, promised, promised_close, promised_gen, promised_solve, promised_summary}
-use Rattle.osposg_cli.specs.declared.words.Command.TheVariants.{Check, Floor, Show}
+use Rattle.osposg_cli.specs.declared.words.Command.TheVariants.{Check, Floor, Show, Simulate}
 use Rattle.osposg_cli.specs.Check.{CheckPromises}
 use Rattle.osposg_cli.specs.Floor.{FloorPromises}
 use Rattle.osposg_cli.specs.Show.{ShowPromises}
+use Rattle.osposg_cli.specs.Simulate.{SimulatePromises}
 use Rattle.osposg_cli.proofs.command.run.Goals as goal
 
 pub returns-in-Ok-write_all-clause-ends : goal.returns-in-Ok-write_all-clause-ends
@@ -42,3 +43,7 @@ returns-in-Ok-write_all-clause-gen_proves g c =
 pub returns-in-Ok-write_all-clause-close_proves : goal.returns-in-Ok-write_all-clause-close_proves
 returns-in-Ok-write_all-clause-close_proves g c =
     λ rounds gap e made. promised_close c.law_close.ensures.keeps rounds gap _ _ _ _ _ _ _ c.in-Ok.ensures.due (search rules) e made
+
+pub returns-in-Ok-write_all-clause-simulate_plays : goal.returns-in-Ok-write_all-clause-simulate_plays
+returns-in-Ok-write_all-clause-simulate_plays g c =
+    λ seed stages rival done e. promised (SimulatePromises seed stages rival) (Simulate seed stages rival) (c.law_simulate.ensures.keeps seed stages rival) _ _ _ _ _ _ _ c.in-Ok.ensures.due (search rules) done e
