@@ -25,8 +25,8 @@ cert_refused_not status refused (inl done) = let e = sym refused ∙ done in cc
 cert_refused_not status refused (inr open_now) = let e = sym refused ∙ open_now in cc
 
 no_not : (status : Status) → status ≡ No → MakesCertificate status → ⊥
-no_not status no (inl done) = let e = sym no ∙ done in cc
-no_not status no (inr open_now) = let e = sym no ∙ open_now in cc
+no_not status refused (inl done) = let e = sym refused ∙ done in cc
+no_not status refused (inr open_now) = let e = sym refused ∙ open_now in cc
 
 pub close-keeps : LowerHolds → UpperHolds → KeepsClose
 close-keeps low high rounds gap input text status (inl (inl (line, kind, is, s, t))) made = absurd (not_refused status s made)

@@ -5,6 +5,8 @@
 mod answer;
 mod check;
 mod close;
+#[cfg(test)]
+mod close_tests;
 mod command;
 #[cfg(test)]
 mod end_tests;
