@@ -11,6 +11,7 @@ mod places;
 mod regrets;
 mod rounds;
 mod sharing;
+mod starts;
 mod steps;
 mod sums;
 mod sweeps;

@@ -11,6 +11,9 @@ use crate::sums::{product, ratio};
 use belief::{Belief, Mixes};
 use game_model::{Game, MIX_TOTAL, MOST_STATES, UNITS, law_game};
 
+/// The sum of the squared numbers of 30 rounds.
+pub const SUM_OF_SQUARES: i128 = 9_455;
+
 /// What one chooser regrets about each action, what the last round added to it, and the sum of the mixes, each times
 /// the squared number of its round.
 #[derive(Clone, Copy)]
@@ -111,6 +114,33 @@ impl Regrets {
         sums
     }
 
+    /// Weights that mix the mean mixes with other ones: a part out of 65,536 of the mean, and the rest of the other.
+    pub fn mixed_informed(&self, mixes: &Mixes, part: i128) -> [Weights; MOST_STATES] {
+        let mut weights = self.informed_sums();
+        for s in 0..mixes.states() {
+            weights[s as usize] = blended(&weights[s as usize], &mix_of(mixes, s), part);
+        }
+        weights
+    }
+
+    /// Leans player one to a mix: each action is regretted by its part of a gain.
+    pub fn lean_own(&mut self, mix: &[i128], gain: i128) {
+        for place in 0..OWN_PLACES {
+            if let Some(weight) = mix.get(place) {
+                self.own.regrets[place] = ratio(weight.saturating_mul(gain), MIX_TOTAL);
+            }
+        }
+    }
+
+    /// Leans the informed player to mixes, which are also those of the first round.
+    pub fn lean_informed(&mut self, mixes: &Mixes, gain: i128) {
+        for s in 0..mixes.states() {
+            let mix = mix_of(mixes, s);
+            self.next[s as usize] = mix;
+            self.informed[s as usize].regrets = parts_of(&mix, gain);
+        }
+    }
+
     /// A round: player one mixes by regret, learns, and mixes again by what is regretted then; the informed player
     /// learns from that, and mixes anew. Answers the last own mix.
     pub fn play(
@@ -190,6 +220,30 @@ fn mix_of(mixes: &Mixes, s: u32) -> Weights
         mix[c as usize] = mixes.get(s, c);
     }
     mix
+}
+
+/// A sum of mixes and a mix, blended: a part out of 65,536 of the sum, and the rest of the mix, as often as there are
+/// mixes in the sum of 30 rounds.
+pub fn blended(sum: &Weights, mix: &Weights, part: i128) -> Weights {
+    let rest = MIX_TOTAL
+        .saturating_sub(part)
+        .saturating_mul(SUM_OF_SQUARES);
+    let mut weights = [0; OWN_PLACES];
+    for place in 0..OWN_PLACES {
+        weights[place] = sum[place]
+            .saturating_mul(part)
+            .saturating_add(mix[place].saturating_mul(rest));
+    }
+    weights
+}
+
+/// The part of a gain that a mix gives to each action.
+fn parts_of(mix: &Weights, gain: i128) -> Weights {
+    let mut parts = [0; OWN_PLACES];
+    for place in 0..OWN_PLACES {
+        parts[place] = ratio(mix[place].saturating_mul(gain), MIX_TOTAL);
+    }
+    parts
 }
 
 /// What each own action is worth in units.

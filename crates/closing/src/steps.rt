@@ -8,9 +8,10 @@ ghost use Rattle.stage_game.specs.AdviceData.{has_weight};
 ghost use Rattle.std.specs.Prelude.{IfOk, filter, length, map, slice_index, ◌++◌, ◌<◌, ◌≡◌, ◌≤◌};
 
 use crate::places::{OWN_PLACES, PAIRS, Weights, add_at, pair_place};
+use crate::regrets::SUM_OF_SQUARES;
 use crate::sharing::share;
 use alpha_set::Step;
-use game_model::{Game, law_game};
+use game_model::{Game, MIX_TOTAL, law_game};
 use std::alloc::{AllocError, Global};
 
 /// How many rounds are played.
@@ -47,8 +48,8 @@ impl Plays {
         self.nodes[round as usize] = *nodes;
     }
 
-    /// Adds to the weight of each node what it was chosen with after an own action and an observation.
-    fn weigh(&self, game: &Game, a: u32, o: u32, weights: &mut [i128])
+    /// Adds to the weight of each node what it was chosen with after an own action and an observation, so many times.
+    fn weigh(&self, game: &Game, a: u32, o: u32, times: i128, weights: &mut [i128])
         requires own { a < game.now.shape.own_actions }
         requires seen { o < game.now.shape.observations }
         ensures { length weights.new ≡ length weights.old }
@@ -56,9 +57,23 @@ impl Plays {
         law_game(game);
         let pair = pair_place(game, a, o);
         for round in 0..ROUNDS {
-            let more = self.mixes[round][a as usize];
+            let more = self.mixes[round][a as usize].saturating_mul(times);
             add_at(weights, self.nodes[round][pair], more);
         }
+    }
+}
+
+/// Adds to the weight of each node what steps after an own action and an observation give to it, so many times.
+fn weigh_steps(steps: &[Step], a: u32, o: u32, times: i128, weights: &mut [i128])
+    ensures { length weights.new ≡ length weights.old }
+{
+    for step in steps {
+        let more = if step.a == a && step.o == o {
+            step.weight.saturating_mul(times)
+        } else {
+            0
+        };
+        add_at(weights, step.k, more);
     }
 }
 
@@ -86,6 +101,8 @@ fn push_steps(a: u32, o: u32, shares: &[i128], next: &mut Vec<Step>) -> Result<(
 fn push_steps_after(
     game: &Game,
     plays: &Plays,
+    part: i128,
+    old: &[Step],
     own: &[i128],
     a: u32,
     o: u32,
@@ -106,7 +123,16 @@ fn push_steps_after(
         (map branch_of next.new.items)) }
 {
     weights.fill(0);
-    plays.weigh(game, a, o, weights);
+    plays.weigh(game, a, o, part, weights);
+    weigh_steps(
+        old,
+        a,
+        o,
+        MIX_TOTAL
+            .saturating_sub(part)
+            .saturating_mul(SUM_OF_SQUARES),
+        weights,
+    );
     share(weights, own[a as usize], shares);
     push_steps(a, o, shares, next)
 }
@@ -115,6 +141,8 @@ fn push_steps_after(
 fn push_steps_of(
     game: &Game,
     plays: &Plays,
+    part: i128,
+    old: &[Step],
     own: &[i128],
     a: u32,
     weights: &mut [i128],
@@ -133,13 +161,13 @@ fn push_steps_of(
         (map branch_of next.old.items) (map branch_of next.new.items)) }
 {
     for o in 0..game.observations() {
-        push_steps_after(game, plays, own, a, o, weights, shares, next)?;
+        push_steps_after(game, plays, part, old, own, a, o, weights, shares, next)?;
     }
     Ok(())
 }
 
-/// The steps of all own actions and observations in order: the weight of the own action, shared by what the nodes were
-/// chosen with there.
+/// The steps of all own actions and observations in order: the weight of the own action, shared by a part out of 65,536
+/// of what the nodes were chosen with there, and the rest of what other steps give to them.
 ///
 /// # Errors
 ///
@@ -148,6 +176,8 @@ pub fn steps_of(
     alloc: Global,
     game: &Game,
     plays: &Plays,
+    part: i128,
+    old: &[Step],
     own: &[i128],
     nodes: u32,
 ) -> Result<Vec<Step>, AllocError>
@@ -161,7 +191,17 @@ pub fn steps_of(
     let mut shares = vec![in alloc; 0; nodes as usize]?;
     let mut next = Vec::new(alloc);
     for a in 0..game.own_actions() {
-        push_steps_of(game, plays, own, a, &mut weights, &mut shares, &mut next)?;
+        push_steps_of(
+            game,
+            plays,
+            part,
+            old,
+            own,
+            a,
+            &mut weights,
+            &mut shares,
+            &mut next,
+        )?;
     }
     Ok(next)
 }
