@@ -1,12 +1,11 @@
 -- Weights that are brought into a range, and what is shared by them.
-use Rattle.std.proofs.Common.{◌≡◌, ◌^◌, ◌*◌, ℕ, ◌<◌, ◌≤◌, ◌++◌, [], List, length, sym, subst, ap, refl, ◌∙◌, arith}
+use Rattle.std.proofs.Common.{◌≡◌, ◌^◌, ◌*◌, ℕ, ◌<◌, ◌≤◌, [], List, length, sym, subst, ap, refl, ◌∙◌, arith}
 use Rattle.std.specs.Prelude.{ℤ, pos, flat_map, ◌*ℤ◌, ◌≤ℤ◌}
-use Rattle.std.specs.List.{All, AllByRecursion}
+use Rattle.std.specs.List.{All}
 use Rattle.std.proofs.lemmas.Int.{ints}
 use Rattle.std.proofs.Math.Nat.{mul-le-mul_right}
 use Rattle.scaled_num.proofs.Floors.{All-at, All-to_recursion, product_le}
 use Rattle.scaled_num.proofs.Sums.{sum-most}
-use Rattle.scaled_num.specs.Share.{at}
 use Rattle.scaled_num.specs.Sums.{below, sum_of}
 use Rattle.belief.specs.Beliefs.{mixes_for}
 use Rattle.game_model.specs.Branches.{mix_total}

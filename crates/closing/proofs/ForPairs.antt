@@ -1,20 +1,19 @@
 -- Branches that loops write for each own action and observation, and the advice that they make.
-use Rattle.std.proofs.Common.{◌≡◌, ℕ, ◌<◌, ◌++◌, ◌∷◌, [], List, map, refl, sym, subst, ap, ◌∙◌, arith}
+use Rattle.std.proofs.Common.{ℕ, ◌<◌, ◌++◌, ◌∷◌, [], List, map, sym, subst, ap, ◌∙◌}
 use Rattle.std.specs.Prelude.{ℤ, pos, flat_map}
 use Rattle.std.specs.List.{AllByRecursion}
 use Rattle.scaled_num.specs.Share.{at}
 use Rattle.scaled_num.specs.Sums.{below, total}
 use Rattle.alpha_set.specs.Nodes.{IsMix}
-use Rattle.game_model.specs.Branches.{AreBranches, AreRising, Branch, IsBranch, IsBranchBefore, branches_at, mix_total}
+use Rattle.game_model.specs.Branches.{AreBranches, AreRising, Branch, IsBranch, branches_at, mix_total}
 use Rattle.game_model.specs.Game.{GameData, IsWithin, numbers}
 use Rattle.point_set.specs.Points.{PointData}
 use Rattle.point_set.specs.Split.{IsWanted}
 use Rattle.stage_game.specs.AdviceData.{LowerAdviceData, UpperAdviceData}
 use Rattle.stage_game.specs.Fits.{IsPlaced, LowerFits, MixesFit, UpperFits, wanted_at}
-use Rattle.stage_game.specs.Masses.{over_pairs}
 use Rattle.stage_game.proofs.Families.{Adds}
 use Rattle.stage_game.proofs.Placed.{AllBefore, IsAt, branches-of-pair, each-weaker, over-pairs-each, over-pairs-rising}
-use Rattle.closing.specs.Plans.{AddsForEach, AreAfter, AreForPairs, AreInOrder, AreStepsFor, AreWishesFor}
+use Rattle.closing.specs.Plans.{AddsForEach, AreForPairs, AreInOrder, AreStepsFor, AreWishesFor}
 
 pub for-each : (R : ℕ → List Branch → Type 0) (count : ℕ) (old new : List Branch)
     → Adds {X = List Branch} {Y = Branch} R (λ added. added) count old new → AddsForEach R count old new

@@ -9,7 +9,7 @@ use Rattle.scaled_num.proofs.Each.{each-by-place}
 use Rattle.scaled_num.proofs.Sums.{each-at, total-below-le, total-places}
 use Rattle.scaled_num.specs.Share.{at}
 use Rattle.scaled_num.specs.Sums.{below, sum_of, total}
-use Rattle.game_model.specs.Game.{GameData, IsMass, IsWithin}
+use Rattle.game_model.specs.Game.{IsWithin}
 use Rattle.point_set.specs.Points.{PointData}
 use Rattle.point_set.specs.Sawtooth.{AreMeasured}
 use Rattle.closing.specs.Plans.{IsRest}

@@ -1,18 +1,17 @@
 -- Steps to nodes that share the weight of an own action.
-use Rattle.std.proofs.Common.{◌≡◌, ℕ, zero, suc, ◌<◌, ◌≤◌, ◌+◌, ◌++◌, ◌∷◌, [], List, Bool, true, false, cond, length, map, refl, sym, subst, ap, ◌∙◌, inl, inr, arith}
-use Rattle.std.specs.Prelude.{ℤ, pos, filter, flat_map, unsigned_abs, ◌+ℤ◌, ◌≤ℤ◌}
+use Rattle.std.proofs.Common.{◌≡◌, ℕ, zero, suc, ◌<◌, ◌≤◌, ◌+◌, ◌∷◌, [], List, Bool, true, false, cond, length, map, refl, ap, ◌∙◌, inr, arith}
+use Rattle.std.specs.Prelude.{ℤ, pos, filter, unsigned_abs, ◌+ℤ◌, ◌≤ℤ◌}
 use Rattle.std.specs.List.{AllByRecursion, range_with_len}
 use Rattle.std.proofs.lemmas.Bool.{ltb-false, ltb-true}
 use Rattle.std.proofs.lemmas.Int.{ints}
 use Rattle.scaled_num.proofs.Sums.{each-at, total-map, total-places}
-use Rattle.scaled_num.specs.Share.{at}
 use Rattle.scaled_num.specs.Sums.{below, sum_of, total}
 use Rattle.game_model.specs.Branches.{Branch, IsBranchBefore, mix_total}
 use Rattle.game_model.specs.Game.{IsWithin}
 use Rattle.stage_game.specs.AdviceData.{has_weight}
 use Rattle.stage_game.proofs.Placed.{each-filter, each-weaker, map-each}
 use Rattle.stage_game.proofs.SharedTotals.{ArePartsOf, parts-within}
-use Rattle.closing.specs.Plans.{AreAfter, AreInOrder, AreStepsFor, numbered, numbered_one}
+use Rattle.closing.specs.Plans.{AreInOrder, AreStepsFor, numbered, numbered_one}
 
 -- ---- the order
 order-kept : (b : Bool) (x : Branch) (xs : List Branch) → AllByRecursion (IsBranchBefore x) xs → AreInOrder xs → AreInOrder (cond b (x ∷ xs) xs)

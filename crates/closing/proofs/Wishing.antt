@@ -9,9 +9,9 @@ use Rattle.game_model.specs.Branches.{Branch, IsBranchBefore}
 use Rattle.game_model.specs.Game.{IsWithin}
 use Rattle.point_set.specs.Points.{PointData}
 use Rattle.point_set.specs.Sawtooth.{AreCorners}
-use Rattle.point_set.specs.Split.{AreRisingPairs, IsWanted, is_corner, most_others, most_wish}
+use Rattle.point_set.specs.Split.{AreRisingPairs, is_corner, most_others, most_wish}
 use Rattle.stage_game.proofs.Placed.{each-weaker}
-use Rattle.closing.specs.Plans.{AddsSuch, AreAfter, AreInOrder, AreWished, AreWishesFor, TakesWish, is_other}
+use Rattle.closing.specs.Plans.{AddsSuch, AreInOrder, AreWished, AreWishesFor, TakesWish, is_other}
 
 pub wished-none : (corners : List ℕ) (a o : ℕ) → AreWished corners a o 0 0 []
 wished-none corners a o = record {

@@ -12,7 +12,7 @@ ghost use Rattle.stage_game.specs.Fits.{LowerFits, MixesFit, UpperFits};
 ghost use Rattle.std.specs.Prelude.{IfOk, List, length, ◌++◌, ◌<◌, ◌≡◌, ◌≤◌};
 
 use crate::going::{going_by_nodes, going_by_points};
-use crate::places::Weights;
+use crate::places::{OWN_PLACES, Weights};
 use crate::regrets::{Regrets, blended};
 use crate::sharing::{informed_mixes, own_mix};
 use crate::starts::{best_node, least_at, started};
@@ -180,8 +180,8 @@ fn lower_advice(
 
 /// The first weights of a list, and 0 where it ends.
 fn own_weights(mix: &[i128]) -> Weights {
-    let mut weights = [0; 6];
-    for place in 0..6 {
+    let mut weights = [0; OWN_PLACES];
+    for place in 0..OWN_PLACES {
         if let Some(weight) = mix.get(place) {
             weights[place] = *weight;
         }
@@ -189,9 +189,9 @@ fn own_weights(mix: &[i128]) -> Weights {
     weights
 }
 
-/// A point for a belief, found by 30 rounds of regret matching, with player one's mix that answers it. The point has the
-/// belief and fits the game, and it stands among the points, also when others come behind them. Of the points that are
-/// tried, of the mean mixes after half of the rounds and after all of them, of the last mixes, and of the mean ones
+/// A point for a belief, found by 30 rounds of regret matching, with player one's mix that answers it. The point has
+/// the belief and fits the game, and it stands among the points, also when others come behind them. Of the points that
+/// are tried, of the mean mixes after half of the rounds and after all of them, of the last mixes, and of the mean ones
 /// blended with those of the point that is known for the belief, it is the first of least value.
 ///
 /// # Errors

@@ -13,7 +13,7 @@ use point_set::{PointSet, Split};
 /// How many teeth are taken before the last one.
 const TEETH: u32 = 7;
 
-/// Adds to the weight of each point what up to eight teeth of a mass give to it, and the corners with what then remains.
+/// Adds to the weight of each point what up to eight teeth of a mass give to it, and to the corners what then remains.
 /// Each tooth is the best point of what is left of the mass, as often as it fits.
 pub fn weigh_teeth(points: &PointSet, mass: &[i128], weights: &mut [i128])
     requires { AreMeasured points.now.members mass.now }

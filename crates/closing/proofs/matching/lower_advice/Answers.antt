@@ -1,4 +1,4 @@
-use Rattle.std.proofs.Common.{◌≡◌, ℕ, List, length, map, subst, sym}
+use Rattle.std.proofs.Common.{ℕ, List, length, map, subst}
 use Rattle.std.specs.Prelude.{ℤ}
 use Rattle.scaled_num.specs.Share.{at}
 use Rattle.game_model.specs.Branches.{branch_of}

@@ -1,7 +1,6 @@
-use Rattle.std.proofs.Common.{◌≡◌, ◌++◌, ℕ, ℤ, FitsSigned, List, get_or, length, map, pos, ◌≤ℤ◌, rules, subst, sym, to_z-of_z, arith}
+use Rattle.std.proofs.Common.{◌≡◌, ◌++◌, ℕ, ℤ, FitsSigned, List, get_or, length, map, pos, rules, to_z-of_z, arith}
 use Rattle.std.specs.Int.{w128}
 use Rattle.std.specs.Prelude.{filter}
-use Rattle.std.proofs.lemmas.Int.{ints}
 use Rattle.std.proofs.lemmas.Result.{IfOk-weaker}
 use Rattle.scaled_num.proofs.Sums.{each-at}
 use Rattle.game_model.specs.Branches.{branch_of, mix_total}

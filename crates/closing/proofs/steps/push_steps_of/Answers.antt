@@ -1,9 +1,8 @@
 use Rattle.std.proofs.Common.{◌≡◌, ℕ, List, [], length, map, subst, arith}
-use Rattle.std.proofs.lemmas.Result.{IfOk-weaker}
 use Rattle.scaled_num.specs.Share.{at}
 use Rattle.game_model.specs.Branches.{Branch, branch_of}
 use Rattle.stage_game.proofs.Families.{Adds, adds-more, adds-none}
-use Rattle.closing.specs.Plans.{AddsForEach, AreStepsFor}
+use Rattle.closing.specs.Plans.{AreStepsFor}
 use Rattle.closing.proofs.ForPairs.{for-each}
 use Rattle.closing.proofs.steps.push_steps_of.Goals as goal
 

@@ -1,4 +1,4 @@
-use Rattle.std.proofs.Common.{◌≡◌, ℕ, get_or, length, subst, sym, true, arith}
+use Rattle.std.proofs.Common.{◌≡◌, ℕ, length, subst, true}
 use Rattle.std.specs.Prelude.{slice_index}
 use Rattle.point_set.proofs.Rests.{corner-is}
 use Rattle.point_set.specs.Split.{is_corner}

@@ -1,7 +1,7 @@
 use Rattle.std.proofs.Common.{◌≡◌, ◌∙◌, ◌++◌, ◌∷◌, [], List, ap, map, rules, refl, FitsSigned, to_z-of_z, arith}
 use Rattle.std.specs.Int.{w128}
 use Rattle.std.proofs.lemmas.List.{map-append}
-use Rattle.game_model.specs.Branches.{Branch, branch_of}
+use Rattle.game_model.specs.Branches.{branch_of}
 use Rattle.game_model.specs.declared.branches.Branch.{Branch as Share}
 use Rattle.closing.proofs.Wishing.{some-others, takes-corner, takes-none, takes-other}
 use Rattle.closing.proofs.wishes.push_wish.Goals as goal

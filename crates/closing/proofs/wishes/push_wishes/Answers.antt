@@ -1,8 +1,8 @@
-use Rattle.std.proofs.Common.{◌≡◌, ◌++◌, ℕ, List, FitsSigned, get_or, length, map, rules, subst, sym, to_z-of_z, arith, []}
+use Rattle.std.proofs.Common.{◌≡◌, ℕ, FitsSigned, get_or, length, map, rules, subst, sym, to_z-of_z, arith, []}
 use Rattle.std.specs.Int.{w128}
 use Rattle.std.specs.Prelude.{ℤ, pos}
 use Rattle.std.proofs.lemmas.List.{append-nil}
-use Rattle.game_model.specs.Branches.{Branch, branch_of}
+use Rattle.game_model.specs.Branches.{branch_of}
 use Rattle.closing.specs.Plans.{AddsSuch, AreWished}
 use Rattle.closing.proofs.Wishing.{wish-taken, wished-none}
 use Rattle.closing.proofs.wishes.push_wishes.Goals as goal

@@ -1,4 +1,4 @@
-use Rattle.std.proofs.Common.{◌≡◌, ◌<◌, ℕ, List, length, map, subst, sym, arith}
+use Rattle.std.proofs.Common.{◌<◌, ℕ, List, length, map, subst, sym, arith}
 use Rattle.std.proofs.lemmas.Result.{IfOk-weaker}
 use Rattle.game_model.specs.Branches.{Branch, branch_of}
 use Rattle.game_model.specs.Game.{GameData, IsMass}

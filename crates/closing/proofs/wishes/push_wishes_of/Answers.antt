@@ -1,4 +1,4 @@
-use Rattle.std.proofs.Common.{◌≡◌, ℕ, List, [], length, map, subst, arith}
+use Rattle.std.proofs.Common.{◌≡◌, ℕ, List, [], map, subst, arith}
 use Rattle.game_model.specs.Branches.{Branch, branch_of}
 use Rattle.stage_game.proofs.Families.{Adds, adds-more, adds-none}
 use Rattle.closing.specs.Plans.{AreWishesFor}

@@ -1,4 +1,3 @@
-use Rattle.std.proofs.Common.{ℕ, ◌<◌}
 use Rattle.std.specs.Prelude.{slice_index}
 use Rattle.point_set.specs.Sawtooth.{AreCorners}
 use Rattle.closing.proofs.wishes.write_corners.Given as goal
