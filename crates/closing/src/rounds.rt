@@ -59,9 +59,15 @@ fn visit_all(
     let mut frontier = Frontier::of(alloc, game)?;
     explore(alloc, game, &mut frontier, nodes, points)?;
     for s in 0..game.states() {
-        visit_again(alloc, game, &Belief::corner(game.states(), s), points)?;
+        visit_again(
+            alloc,
+            game,
+            &Belief::corner(game.states(), s),
+            nodes,
+            points,
+        )?;
     }
-    go_back(alloc, game, &frontier.visited, points)
+    go_back(alloc, game, &frontier.visited, nodes, points)
 }
 
 /// Visits the open beliefs, the one of greatest gap first, until none is open or the budget is used.
@@ -123,14 +129,16 @@ fn go_back(
     alloc: Global,
     game: &Game,
     beliefs: &[Belief],
+    nodes: &NodeSet,
     points: &mut PointSet,
 ) -> Result<(), AllocError>
-    requires { ArePoints game.now points.old.members }
+    requires nodes { AreNodes game.now nodes.now.members }
+    requires points { ArePoints game.now points.old.members }
     ensures { PointsGoOn game.now points.old.members points.new.members }
 {
     let count = beliefs.len();
     for i in 0..count {
-        visit_again(alloc, game, &beliefs[count - 1 - i], points)?;
+        visit_again(alloc, game, &beliefs[count - 1 - i], nodes, points)?;
     }
     Ok(())
 }
@@ -140,13 +148,15 @@ fn visit_again(
     alloc: Global,
     game: &Game,
     belief: &Belief,
+    nodes: &NodeSet,
     points: &mut PointSet,
 ) -> Result<(), AllocError>
-    requires { ArePoints game.now points.old.members }
+    requires nodes { AreNodes game.now nodes.now.members }
+    requires points { ArePoints game.now points.old.members }
     ensures { PointsGoOn game.now points.old.members points.new.members }
 {
     if is_of_game(game, belief) {
-        visit_points(alloc, game, belief, points)?;
+        visit_points(alloc, game, belief, nodes, points)?;
     }
     Ok(())
 }

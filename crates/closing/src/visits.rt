@@ -44,8 +44,8 @@ pub fn visit(
     ensures seen { IfOk result (IsSeen game.now) }
 {
     law_game(game);
-    let informed = visit_nodes(alloc, game, belief, nodes)?;
-    let own = visit_points(alloc, game, belief, points)?;
+    let informed = visit_nodes(alloc, game, belief, nodes, points)?;
+    let own = visit_points(alloc, game, belief, nodes, points)?;
     Ok(Seen { informed, own })
 }
 
@@ -55,14 +55,16 @@ fn visit_nodes(
     game: &Game,
     belief: &Belief,
     nodes: &mut NodeSet,
+    points: &PointSet,
 ) -> Result<Mixes, AllocError>
     requires belief { BeliefFits game.now belief.now }
     requires nodes { AreNodes game.now nodes.old.members }
+    requires points { ArePoints game.now points.now.members }
     ensures nodes { NodesGoOn game.now nodes.old.members nodes.new.members }
     ensures mixes { IfOk result (MixesFit game.now) }
 {
     law_game(game);
-    let (informed, node) = matched_node(alloc, game, belief, nodes)?;
+    let (informed, node) = matched_node(alloc, game, belief, nodes, points)?;
     keep_node(game, nodes, belief, node)?;
     Ok(informed)
 }
@@ -72,15 +74,17 @@ pub fn visit_points(
     alloc: Global,
     game: &Game,
     belief: &Belief,
+    nodes: &NodeSet,
     points: &mut PointSet,
 ) -> Result<Vec<i128>, AllocError>
     requires belief { BeliefFits game.now belief.now }
+    requires nodes { AreNodes game.now nodes.now.members }
     requires points { ArePoints game.now points.old.members }
     ensures points { PointsGoOn game.now points.old.members points.new.members }
     ensures own { IfOk result (λ own. IsMix game.now.shape.own_actions own.items) }
 {
     law_game(game);
-    let (own, point) = matched_point(alloc, game, belief, points)?;
+    let (own, point) = matched_point(alloc, game, belief, nodes, points)?;
     keep_point(game, points, point)?;
     Ok(own)
 }
