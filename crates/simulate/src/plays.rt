@@ -2,7 +2,8 @@
 
 ghost use Rattle.controller.specs.Certificates.{CertificateStands};
 ghost use Rattle.hsvi_draw.specs.Draws.{after_draws, seeded};
-ghost use Rattle.simulate.specs.Plays.{CanStand, begin_draws, begun, draws_over, from_weights, member_drawn, over_weights, point_draws};
+ghost use Rattle.simulate.specs.Plays.{CanStand, begin_draws, begun, draws_over};
+ghost use Rattle.simulate.specs.Plays.{from_weights, member_drawn, over_weights, point_draws};
 ghost use Rattle.simulate.specs.Plays.{simulated, start_point, state_drawn, steps_from};
 ghost use Rattle.std.specs.List.{sum};
 ghost use Rattle.game_model.specs.Game.{first_at, numbers};
