@@ -7,3 +7,4 @@ pub mod Stepping
 pub mod ForPairs
 pub mod Wishing
 pub mod RestMasses
+pub mod OneStarts

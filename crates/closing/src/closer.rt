@@ -9,6 +9,7 @@ ghost use Rattle.std.specs.Prelude.{IfOk, ◌↔◌, ◌≡◌, ◌≤◌};
 
 use crate::export::exported;
 use crate::rounds::round;
+use crate::signs::Signs;
 use controller::{Certificate, Outcome};
 use game_model::Game;
 use scaled_num::Fraction;
@@ -66,7 +67,8 @@ fn with_gap(game: &Game, certificate: Certificate, gap: &Fraction) -> Certificat
     given.concluded(game)
 }
 
-/// What rounds make of a certificate; it ends at the first round whose bounds are within the gap.
+/// What rounds make of a certificate; it ends at the first round whose bounds are within the gap, or that changes no
+/// member: further rounds would change none either.
 ///
 /// # Errors
 ///
@@ -83,10 +85,16 @@ fn improved(
 {
     let mut best = certificate;
     for _ in 0..rounds {
+        let before = Signs::of(&best);
         best = round(alloc, game, best)?;
-        if is_closed(&best) {
+        if is_done(&best, &before) {
             return Ok(best);
         }
     }
     Ok(best)
+}
+
+/// Whether no further round is needed, after one that began with members of these signs.
+fn is_done(certificate: &Certificate, before: &Signs) -> bool {
+    is_closed(certificate) || Signs::of(certificate) == *before
 }

@@ -8,6 +8,7 @@ ghost use Rattle.std.specs.Bool.{IsTrue};
 ghost use Rattle.std.specs.Prelude.{IfOk, ◌<◌};
 
 use crate::branches::{Frontier, Open};
+use crate::restarts::restarted;
 use crate::sweeps::{sweep_nodes, sweep_points};
 use crate::visits::{visit, visit_points};
 use alpha_set::NodeSet;
@@ -21,13 +22,26 @@ use std::alloc::{AllocError, Global};
 const BUDGET: u32 = 64;
 
 /// What one round makes of a certificate: it visits the beliefs from the first one on, those first on which most of the
-/// gap hangs, then the corners, then the visited beliefs once more for points, from the last to the first; in the end
-/// all members are swept.
+/// gap hangs, then the corners, then the visited beliefs once more for points, from the last to the first; then all
+/// members are swept, and in the end the starts move to better members.
 ///
 /// # Errors
 ///
 /// Where no memory is to be had.
 pub fn round(
+    alloc: Global,
+    game: &Game,
+    certificate: Certificate,
+) -> Result<Certificate, AllocError>
+    requires { CertificateStands game.now certificate }
+    ensures { IfOk result (IsBetter game.now certificate) }
+{
+    let next = with_better_members(alloc, game, certificate)?;
+    restarted(alloc, game, next)
+}
+
+/// The certificate with the members that the visits and the sweeps of a round make of its own.
+fn with_better_members(
     alloc: Global,
     game: &Game,
     certificate: Certificate,

@@ -17,3 +17,4 @@ pub mod ExportStands
 pub mod Remainders
 pub mod Gap
 pub mod Bounded
+pub mod OneStart

@@ -1,22 +1,17 @@
 -- What solving found, with its start and its outcome, fits and stands as the parts of a certificate.
 use Rattle.std.proofs.Common.{◌≡◌, ℕ, zero, suc, ◌*◌, ◌<◌, ◌≤◌, Bool, cond, ◌==◌, List, inl, inr, length, refl, ap, ap₂, sym, subst, ◌∙◌, arith}
-use Rattle.std.specs.Prelude.{ℤ, pos, unsigned_abs, slice_index_or, ◌+ℤ◌, ◌*ℤ◌, ◌≤ℤ◌}
+use Rattle.std.specs.Prelude.{ℤ, pos, unsigned_abs, ◌+ℤ◌, ◌*ℤ◌}
 use Rattle.std.proofs.lemmas.Bool.Decides.{eqb_tells}
 use Rattle.std.proofs.lemmas.Int.{ints}
 use Rattle.scaled_num.specs.Share.{at}
-use Rattle.scaled_num.specs.Sums.{below, total}
-use Rattle.scaled_num.proofs.Products.{magnitude-is}
-use Rattle.scaled_num.proofs.Sums.{each-at, total-below}
-use Rattle.alpha_set.specs.Nodes.{NodeData, no_node}
-use Rattle.alpha_set.specs.Worth.{worth_at}
 use Rattle.belief.specs.Beliefs.{corner_of}
 use Rattle.controller.specs.Certificates.{Closed, Ending, FractionData, Full, IsShort, IsWithinGap, OutcomeHolds, Trials, first_total, node_product}
 use Rattle.controller.specs.Members.{Rules}
 use Rattle.controller.specs.Parts.{PartsFit, PartsStand, certificate_of, no_fraction, proved_lower}
 use Rattle.controller.specs.Starts.{MakesUpMultiple, most_from}
+use Rattle.controller.proofs.OneStart.{one-start, product-is}
 use Rattle.controller.proofs.Places.{hold-everywhere}
-use Rattle.game_model.specs.Game.{GameData, IsGame, IsWithin, unit}
-use Rattle.game_model.specs.Limits.{most_belief}
+use Rattle.game_model.specs.Game.{GameData, IsGame, unit}
 use Rattle.point_set.proofs.Rests.{corner-at, corner-other}
 use Rattle.hsvi_trial.specs.Data.{solved_parts}
 use Rattle.hsvi_trial.specs.Run.{IsOutcome, IsSolveRun, IsWithinLimits, SolvedData, Task}
@@ -25,7 +20,7 @@ use Rattle.hsvi_trial.specs.Starts.{AreNear, AreOpen, IsStart, StartData, lower_
 use Rattle.hsvi_trial.proofs.FewMembers.{few-nodes, few-points}
 use Rattle.hsvi_trial.proofs.OneStarts.{start-one}
 use Rattle.hsvi_trial.proofs.Standing.{some-corner}
-use Rattle.hsvi_trial.proofs.StartFits.{StartsThere, one-start, single-multiple, start-there}
+use Rattle.hsvi_trial.proofs.StartFits.{StartsThere, single-multiple, start-there}
 
 -- ---- the parts fit
 none-short : IsShort no_fraction
@@ -83,21 +78,6 @@ corner-weight states j s lj ls = elim (eqb_tells s j) [
       ∙ sym (ap {B = ℕ} (λ (b : Bool). cond b 1 0) e.0)
   | inr e ↦ ap unsigned_abs (corner-other states j s ls e.1) ∙ sym (ap {B = ℕ} (λ (b : Bool). cond b 1 0) e.0)
 ]
-
--- the product with the first belief is what the node is worth there
-product-is : (g : GameData) → IsGame g → (nodes : List NodeData) (i : ℕ) →
-    node_product g nodes i ≡ worth_at g.first (slice_index_or nodes i no_node).vector
-product-is g game nodes i =
-    total-below g.shape.states _ (λ s. at g.first s *ℤ at vector s)
-    (λ s l. ap (λ (z : ℤ). z *ℤ at vector s) (sym (magnitude-is (at g.first s) (weight s l))))
-    ∙ ap (λ (n : ℕ). total (λ s. at g.first s *ℤ at vector s) (below n)) (sym game.first.long)
-  where
-    vector : List ℤ
-    vector = (slice_index_or nodes i no_node).vector
-
-    weight : (s : ℕ) → s < g.shape.states → pos 0 ≤ℤ at g.first s
-    weight s l = (each-at (IsWithin (pos 0) (pos most_belief)) (pos 0) g.first s game.first.each
-        (subst (λ (n : ℕ). s < n) (sym game.first.long) l)).0
 
 -- the lower bound that the parts prove is that of the start; their upper bound is so as it stands
 lower-is : (g : GameData) → IsGame g → (gap : FractionData) (solved : SolvedData) →

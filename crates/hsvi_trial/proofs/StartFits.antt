@@ -3,7 +3,7 @@ use Rattle.std.proofs.Common.{◌≡◌, ℕ, zero, suc, ◌^◌, ◌<◌, ◌�
 use Rattle.std.specs.Int.{◌∣◌}
 use Rattle.std.specs.List.{AllByRecursion}
 use Rattle.std.specs.Prelude.{ℤ, pos, unsigned_abs, ◌+ℤ◌, ◌*ℤ◌, ◌≤ℤ◌, ◌<ℤ◌}
-use Rattle.std.proofs.Math.Nat.{dvd-mul_right, eq-one_of_dvd-one}
+use Rattle.std.proofs.Math.Nat.{dvd-mul_right}
 use Rattle.std.proofs.lemmas.Int.{by_lt_z, ints, unsigned_abs-mul}
 use Rattle.std.proofs.lemmas.Nat.Gcd.{dvd_refl}
 use Rattle.scaled_num.specs.Share.{at}
@@ -14,6 +14,7 @@ use Rattle.scaled_num.proofs.Products.{lt-mulℤ_cancel, mulℤ_assoc}
 use Rattle.scaled_num.proofs.Sums.{each-at}
 use Rattle.simplex.proofs.Combine.{cancel}
 use Rattle.controller.specs.Starts.{AreStarts, IsStart as IsOneOf, MakesUpMultiple, most_from, most_over, weighted}
+use Rattle.controller.proofs.OneStart.{one-makes-up, one-start}
 use Rattle.game_model.specs.Branches.{mix_total}
 use Rattle.game_model.specs.Game.{AreCoprime, GameData, IsBelief, IsGame, IsWithin}
 use Rattle.game_model.proofs.Pay.{each-from}
@@ -45,25 +46,13 @@ pub record StartsThere (g : GameData) (points : List PointData) (starts : Items)
   pub made : MakesUpMultiple points starts multiple g.first g.shape.states
 
 -- ---- one start
-pub one-start : (count member : ℕ) (most : ℤ) → member < count → pos 1 ≤ℤ most →
-    AreStarts count most ((member, pos 1) ∷ [])
-one-start count member most inside large = record {
-  some = omega arith;
-  rising = tt;
-  each = ((inside, (omega (arith, ints), large)), tt);
-  coprime = λ d h. eq-one_of_dvd-one h.0;
-}
-
 root-there : (g : GameData) (points : List PointData) (root : ℕ) → root < length points →
     (point_at points root).belief ≡ g.first → StartsThere g points ((root, pos 1) ∷ []) (pos 1)
 root-there g points root inside here = record {
   over = one-start (length points) root (pos most_over) inside (omega (arith, ints));
   multiple_fits = (omega (arith, ints), omega (arith, ints));
-  made = λ s l. once (at (point_at points root).belief s) ∙ ap (λ (belief : List ℤ). pos 1 *ℤ at belief s) here;
+  made = one-makes-up g points root here;
 }
-  where
-    once : (z : ℤ) → pos 1 *ℤ z +ℤ pos 0 ≡ pos 1 *ℤ z
-    once z = omega (arith, ints)
 
 -- ---- items in lowest terms
 -- a number whose multiple is 1 to the most is too

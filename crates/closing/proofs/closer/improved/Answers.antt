@@ -9,5 +9,5 @@ loop-init c = better-itself c.args.game.now c.args.certificate c.requires.stands
 pub loop-preserved : goal.loop-preserved
 loop-preserved c = better-through c.args.game.now c.args.certificate c.loop.best c.in_ok-best.best c.requires.stands.fits c.loop.invariant c.in_ok-best.ensures
 
-pub returns-then-is_closed : goal.returns-then-is_closed
-returns-then-is_closed c = better-through c.args.game.now c.args.certificate c.loop.best c.in_ok-best.best c.requires.stands.fits c.loop.invariant c.in_ok-best.ensures
+pub returns-then-is_done : goal.returns-then-is_done
+returns-then-is_done c = better-through c.args.game.now c.args.certificate c.loop.best c.in_ok-best.best c.requires.stands.fits c.loop.invariant c.in_ok-best.ensures
