@@ -15,4 +15,3 @@ small-entry V x small h = let low = h.0 in let high = h.1 in omega (arith, ints)
 pub small-entries : (g : GameData) (nodes : ℕ) (node : NodeData) → span g ≤ 2 ^ 66 → NodeFits g nodes node → AllByRecursion (λ x. unsigned_abs x ≤ 2 ^ 70) node.vector
 small-entries g nodes node small fits =
     each-from (IsWithin (neg_ℤ (pos (span g))) (pos (span g))) (λ x. unsigned_abs x ≤ 2 ^ 70) node.vector (λ x h. small-entry (span g) x small h) fits.entries
-

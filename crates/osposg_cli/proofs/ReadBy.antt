@@ -113,8 +113,7 @@ pub close-plain : TakesPlain close_names close_of
 unfolding close_of
 close-plain values c e =
     let rounds = some-then (λ (n : ℕ). option_map (Close n) (own_gap_in values)) (rounds_in values) c e in
-    let gap = some-map (Close rounds.0) (own_gap_in values) c rounds.2 in
-    (
+    let gap = some-map (Close rounds.0) (own_gap_in values) c rounds.2 in (
       said-plain 100 (number_of 0 most_rounds) (values (codes "rounds")) rounds.0 (number-plain 0 most_rounds) rounds.1,
       (said-plain None some_gap (values (codes "gap")) gap.0 own-gap-plain gap.1, tt),
     )
@@ -127,8 +126,7 @@ unfolding simulate_of
 simulate-plain values c e =
     let seed = some-then (λ (n : ℕ). option_and_then (λ (stages : ℕ). option_map (Simulate n stages) (rival_in values)) (stages_in values)) (seed_in values) c e in
     let stages = some-then (λ (n : ℕ). option_map (Simulate seed.0 n) (rival_in values)) (stages_in values) c seed.2 in
-    let rival = some-map (Simulate seed.0 stages.0) (rival_in values) c stages.2 in
-    (
+    let rival = some-map (Simulate seed.0 stages.0) (rival_in values) c stages.2 in (
       said-plain 0 (number_of 0 most_number) (values (codes "seed")) seed.0 (number-plain 0 most_number) seed.1,
       (
         said-plain 10 (number_of 1 most_plays) (values (codes "stages")) stages.0 (number-plain 1 most_plays) stages.1,

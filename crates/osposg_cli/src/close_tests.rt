@@ -19,7 +19,9 @@ fn a_closed_certificate_is_given_back(rt: HostRuntime) -> Result<(), Fail> {
     let both = joined(alloc, &text_of(alloc, &PENNIES)?, &certificate)?;
     let input = both.as_bytes();
     assert!(rt; answered(alloc, &["close"], input, &certificate)? == (Status::Done, true));
-    assert!(rt; answered(alloc, &["close", "--rounds=0"], input, &certificate)? == (Status::Done, true));
+    assert!(rt;
+        answered(alloc, &["close", "--rounds=0"], input, &certificate)? == (Status::Done, true)
+    );
     Ok(())
 }
 
@@ -34,7 +36,11 @@ fn the_seeds_of_pennies_close(rt: HostRuntime) -> Result<(), Fail> {
     input.extend_from_slice(&seeds)?;
     let (status, closed) = over(alloc, &["close"], &input, (4096, &[]), (4096, &[]))?;
     assert!(rt; status == Status::Done);
-    assert!(rt; closed.as_slice().starts_with(b"certificate 2\noutcome closed\n"));
+    assert!(rt;
+        closed
+            .as_slice()
+            .starts_with(b"certificate 2\noutcome closed\n")
+    );
     Ok(())
 }
 
@@ -51,7 +57,9 @@ fn what_does_not_stand_is_not_made_better_or_played(rt: HostRuntime) -> Result<(
     let other = joined(alloc, &text_of(alloc, &GUESS_THE_STATE)?, "certificate 1\n")?;
     let refused = "certificate refused: line 1 kind 1\n";
     for command in [["close"].as_slice(), &["simulate"]] {
-        assert!(rt; answered(alloc, command, other.as_bytes(), refused)? == (Status::CertRefused, true));
+        assert!(rt;
+            answered(alloc, command, other.as_bytes(), refused)? == (Status::CertRefused, true)
+        );
     }
     Ok(())
 }
@@ -59,7 +67,11 @@ fn what_does_not_stand_is_not_made_better_or_played(rt: HostRuntime) -> Result<(
 #[test]
 fn three_stages_are_played(rt: HostRuntime) -> Result<(), Fail> {
     let alloc = rt.alloc();
-    let both = joined(alloc, &text_of(alloc, &THREE_HALVED)?, &text_of(alloc, &THREE_CERTIFICATE)?)?;
+    let both = joined(
+        alloc,
+        &text_of(alloc, &THREE_HALVED)?,
+        &text_of(alloc, &THREE_CERTIFICATE)?,
+    )?;
     let input = both.as_bytes();
     for command in [
         ["simulate", "--stages", "3"].as_slice(),

@@ -26,5 +26,5 @@ pub returns-clause-concluded : goal.returns-clause-concluded
 returns-clause-concluded c =
     let range : FitsSigned w128 c.bounded.inside.multiple = search rules in
     let whole : IsConcluded c.args.game.now c.args.self (with_outcome (ending_of c.outcome_by_gap-outcome.result) c.bounded-bounded.result) =
-        conclude c.args.game.now c.args.self c.bounded-bounded.result (ending_of c.outcome_by_gap-outcome.result) c.bounded-bounded.ensures.same c.bounded-bounded.ensures.bound c.outcome_by_gap-outcome.ensures in
+    conclude c.args.game.now c.args.self c.bounded-bounded.result (ending_of c.outcome_by_gap-outcome.result) c.bounded-bounded.ensures.same c.bounded-bounded.ensures.bound c.outcome_by_gap-outcome.ensures in
     simp to_z-of_z (rw (← c.bounded.view_is) at whole)
