@@ -13,7 +13,7 @@ use Rattle.game_model.specs.Game.{GameData, numbers, unit}
 use Rattle.game_model.specs.Numbers.{Numbers, over_row}
 use Rattle.game_model.proofs.Pay.{each-from}
 use Rattle.alpha_set.specs.Nodes.{Node, NodeData, NodeFits, NodeStands, no_node, node_of, node_worth, nodes_of, steps_at, steps_worth}
-use Rattle.point_set.specs.Points.{PointData, PointFits, PointStands, most_share, no_point, point_of, points_of}
+use Rattle.point_set.specs.Points.{PointData, PointFits, PointStands, no_point, point_of, points_of}
 use Rattle.point_set.proofs.Fitting.{fits-more}
 use Rattle.backup.specs.Standing.{NodesFitAndStand, PointsFitAndStand}
 use Rattle.backup.proofs.Standing.{stands-on}

@@ -1,11 +1,10 @@
 -- An upper visit is one: its advice and its point are a function of the game, the belief and the points.
-use Rattle.std.proofs.Common.{◌≡◌, ◌⊎◌, ℕ, zero, suc, ◌<◌, ◌++◌, List, [], ◌∷◌, length, map, filter, get_or, refl, ap, ap₂, arith, sym, subst, ◌∙◌, inl, inr}
-use Rattle.std.specs.Prelude.{ℤ, pos, Option, None, Some, ◌≤ℤ◌, ◌<ℤ◌, ◌==◌, ◌&&◌, filter_map, flat_map, sum_by, take}
+use Rattle.std.proofs.Common.{◌≡◌, ◌⊎◌, ℕ, zero, suc, ◌<◌, ◌++◌, List, [], ◌∷◌, length, map, get_or, refl, ap, ap₂, arith, sym, subst, ◌∙◌, inl, inr}
+use Rattle.std.specs.Prelude.{ℤ, pos, Option, None, ◌≤ℤ◌, ◌<ℤ◌, ◌==◌, ◌&&◌, filter_map, flat_map, sum_by, take}
 use Rattle.std.specs.List.{AllByRecursion}
 use Rattle.std.proofs.lemmas.Bool.{cases_order}
 use Rattle.std.proofs.lemmas.Int.{ints}
 use Rattle.std.proofs.lemmas.List.{ext_get_or}
-use Rattle.scaled_num.specs.Share.{at}
 use Rattle.scaled_num.specs.Sums.{below, sum_of}
 use Rattle.scaled_num.proofs.Floors.{All-from_recursion, All-to_recursion, NoneNegative}
 use Rattle.scaled_num.proofs.Sums.{below-each, each-at, each-map, total-map, total-pos}
@@ -21,13 +20,13 @@ use Rattle.point_set.specs.Points.{Point, PointData, point_of, points_of}
 use Rattle.simplex.specs.Dictionary.{Dictionary}
 use Rattle.simplex.specs.declared.End.{End}
 use Rattle.simplex.specs.declared.End.TheVariants.{Optimal, Spent, Unbounded, Wide}
-use Rattle.stage_game.specs.Advice.{AreWantedRead, IsUpperAdvice}
-use Rattle.stage_game.specs.AdviceData.{UpperAdviceData, first_point_row, listed, listed_one}
+use Rattle.stage_game.specs.Advice.{AreWantedRead}
+use Rattle.stage_game.specs.AdviceData.{UpperAdviceData, first_point_row, listed_one}
 use Rattle.stage_game.specs.Chosen.{different, risen}
 use Rattle.stage_game.specs.Fits.{wanted_at}
 use Rattle.belief.specs.After.{mass_after}
-use Rattle.stage_game.specs.Masses.{masses, over_pairs}
-use Rattle.stage_game.specs.UpperCandidates.{AreCornersAnd, ArePricedUpper, AreUpperCandidates, most_others, others_downwards}
+use Rattle.stage_game.specs.Masses.{masses}
+use Rattle.stage_game.specs.UpperCandidates.{AreCornersAnd, ArePricedUpper, most_others, others_downwards}
 use Rattle.stage_game.proofs.Families.{flat_map-below}
 use Rattle.stage_game.proofs.OneAdvice.{upper-one}
 use Rattle.stage_game.proofs.Placed.{map-each, over-pairs-each}
@@ -36,7 +35,7 @@ use Rattle.backup.specs.Evaluation.{IsNewPoint, split_branches}
 use Rattle.backup.specs.UpperLaws.{UpperVisitsAreOne}
 use Rattle.backup.specs.Seeds.{IsEvaluation}
 use Rattle.backup.specs.Tries.{AfterEnd, AreTries, IsFirstLeast, first_bits, tried_bits}
-use Rattle.backup.specs.UpperVisits.{IsUpperRun, IsUpperVisit, UpperRun, value_at}
+use Rattle.backup.specs.UpperVisits.{IsUpperRun, UpperRun, value_at}
 use Rattle.backup.proofs.OneSeeds.{evaluations-one}
 
 -- ---- candidates are one

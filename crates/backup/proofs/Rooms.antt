@@ -5,7 +5,7 @@ use Rattle.alpha_set.specs.Nodes.{NodeData}
 use Rattle.game_model.specs.Game.{GameData, IsGame}
 use Rattle.point_set.specs.Points.{PointData}
 use Rattle.simplex.specs.Solver.{State}
-use Rattle.stage_game.specs.Asked.{AreLowerEnds, AreUpperEnds, HasRoomForLower, HasRoomForLowers, HasRoomForUpper, HasRoomForUppers}
+use Rattle.stage_game.specs.Asked.{HasRoomForLower, HasRoomForLowers, HasRoomForUpper, HasRoomForUppers}
 use Rattle.backup.specs.Rooms.{HasRooms}
 use Rattle.stage_game.proofs.FewPoints.{few-candidates}
 

@@ -1,5 +1,5 @@
 -- The runs of an upper visit, and the first of least value among them.
-use Rattle.std.proofs.Common.{◌≡◌, ◌⊎◌, ℕ, zero, suc, ◌+◌, ◌<◌, ◌≤◌, ◌++◌, List, [], ◌∷◌, length, drop, get_or, refl, ap, arith, sym, subst, ◌∙◌, inl, inr, append_assoc, append-nil, length-append}
+use Rattle.std.proofs.Common.{◌≡◌, ◌⊎◌, ℕ, zero, suc, ◌+◌, ◌<◌, ◌≤◌, ◌++◌, List, [], ◌∷◌, length, drop, get_or, refl, ap, arith, sym, subst, ◌∙◌, inl, inr, length-append}
 use Rattle.std.specs.Prelude.{ℤ, ◌≤ℤ◌, ◌<ℤ◌}
 use Rattle.std.proofs.lemmas.Int.{by_lt_z, ints}
 use Rattle.std.proofs.lemmas.List.{get_or_append_left}
@@ -11,7 +11,7 @@ use Rattle.simplex.specs.declared.End.{End}
 use Rattle.simplex.specs.declared.End.TheVariants.{Optimal}
 use Rattle.stage_game.specs.UpperCandidates.{AreUpperCandidates}
 use Rattle.std.specs.Prelude.{Some}
-use Rattle.backup.specs.Tries.{AreTries, IsFirstLeast, tried_bits}
+use Rattle.backup.specs.Tries.{IsFirstLeast, tried_bits}
 use Rattle.backup.specs.UpperRuns.{IsBestRun, IsFirstRun, IsSound, run_data}
 use Rattle.backup.specs.UpperVisits.{IsUpperRun, IsUpperVisit, UpperRun, value_at}
 use Rattle.backup.specs.declared.upper_visits.Run.{Run}

@@ -67,8 +67,8 @@ fn with_gap(game: &Game, certificate: Certificate, gap: &Fraction) -> Certificat
     given.concluded(game)
 }
 
-/// What rounds make of a certificate; it ends at the first round whose bounds are within the gap, or that changes no
-/// member: further rounds would change none either.
+/// What rounds make of a certificate; it ends at the first round whose bounds are within the gap, or that changes the
+/// entries of no node and the value of no point.
 ///
 /// # Errors
 ///

@@ -1,11 +1,11 @@
-//! Signs by which a round is known to have changed no member.
+//! Signs by which a round is known to have changed no entry of a node and no value of a point.
 
 use alpha_set::NodeSet;
 use controller::Certificate;
 use point_set::PointSet;
 
 /// How many members a certificate has, and the sums of their numbers. A round adds members, raises entries and lowers
-/// values, so where it leaves these as they were it changed none. No promise is made of it: a round may be left out.
+/// values, so where it leaves these as they were it changed none. No promise is made of it: it only saves rounds.
 #[derive(Clone, Copy, PartialEq, Eq)]
 pub struct Signs {
     /// How many nodes there are.

@@ -1,6 +1,6 @@
 -- A certificate with the bounds that its starts prove fits where one with the same members fits.
-use Rattle.std.proofs.Common.{◌≡◌, ◌≤◌, ap, length, arith, sym, ◌∙◌}
-use Rattle.std.specs.Prelude.{ℤ, pos, unsigned_abs, ◌*ℤ◌, ◌≤ℤ◌}
+use Rattle.std.proofs.Common.{◌≡◌, ap, arith, ◌∙◌}
+use Rattle.std.specs.Prelude.{ℤ, pos}
 use Rattle.std.proofs.lemmas.Int.{ints}
 use Rattle.game_model.specs.Game.{GameData, IsGame, span, unit}
 use Rattle.controller.specs.Certificates.{BoundAt, CertificateData, CertificateFits, FractionData, Holds, IsFraction, IsShort, StartAt}

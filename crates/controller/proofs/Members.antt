@@ -1,6 +1,6 @@
 -- What the nodes and the points of a certificate that fits have.
-use Rattle.std.proofs.Common.{◌≡◌, ℕ, suc, ◌+◌, ◌*◌, ◌<◌, ◌≤◌, List, [], ◌∷◌, length, refl, ap, arith, sym, ◌∙◌, subst, Bool, true, false, cond, ◌&&◌, ◌==◌, filter}
-use Rattle.std.specs.Prelude.{ℤ, pos, neg_ℤ, ◌+ℤ◌, ◌*ℤ◌, ◌≤ℤ◌, sum_by, map, unsigned_abs, slice_index_or, get_or}
+use Rattle.std.proofs.Common.{◌≡◌, ℕ, suc, ◌+◌, ◌*◌, ◌<◌, ◌≤◌, List, [], ◌∷◌, length, ap, arith, sym, ◌∙◌, subst, Bool, true, false, cond, ◌&&◌, ◌==◌, filter}
+use Rattle.std.specs.Prelude.{ℤ, pos, neg_ℤ, ◌+ℤ◌, ◌*ℤ◌, ◌≤ℤ◌, sum_by, unsigned_abs, slice_index_or, get_or}
 use Rattle.std.specs.List.{AllByRecursion}
 use Rattle.std.proofs.lemmas.Int.{ints}
 use Rattle.std.proofs.Math.Nat.{mul-le-mul_right}
@@ -8,7 +8,7 @@ use borrow.Author.Differences.{up}
 use Rattle.scaled_num.specs.Sums.{below, total, sum_of}
 use Rattle.scaled_num.proofs.Products.{sums}
 use Rattle.scaled_num.proofs.Sums.{total-below, total-places, total-pos, total-same, each-at, each-map, sum_by-map}
-use Rattle.alpha_set.specs.Nodes.{NodeData, NodeFits, no_node, node_of, steps_at}
+use Rattle.alpha_set.specs.Nodes.{NodeData, NodeFits, no_node, node_of}
 use Rattle.belief.specs.Mixes.{MixesData, mix_at, AreMixes}
 use Rattle.controller.specs.Certificates.{CertificateData, CertificateFits}
 use Rattle.controller.specs.Members.{NodeKeeps, NodesKeep, PointKeeps, PointsKeep, SharesNameMembers, StepsNameMembers, belief_total}
@@ -16,7 +16,7 @@ use Rattle.game_model.specs.Branches.{IsBranch, branches_at, continuation_of, mi
 use Rattle.game_model.specs.Game.{GameData, IsWithin, numbers, span}
 use Rattle.game_model.proofs.Continuations.{continuations-are}
 use Rattle.game_model.proofs.Pay.{each-from}
-use Rattle.point_set.specs.Points.{PointData, PointFits, most_share, no_point, point_of, shares_at}
+use Rattle.point_set.specs.Points.{PointData, PointFits, most_share, no_point, point_of}
 
 -- a number that is not negative is its magnitude
 pub same_abs : (x : ℤ) → pos 0 ≤ℤ x → pos (unsigned_abs x) ≡ x

@@ -1,12 +1,11 @@
 -- The export of parts is one: which members are kept is one, and the rest follows from it.
-use Rattle.std.proofs.Common.{◌≡◌, ℕ, ◌<◌, Bool, true, false, List, refl, ap, sym, ◌∙◌}
+use Rattle.std.proofs.Common.{◌≡◌, ℕ, Bool, true, false, List, refl, ap, sym, ◌∙◌}
 use Rattle.std.proofs.Math.Path.{fun_ext}
 use Rattle.std.specs.Prelude.{IsTrue}
 use Rattle.controller.specs.Certificates.{CertificateData}
-use Rattle.controller.specs.Export.{AreKept, ExportsAreOne, IsExport, parts_kept}
-use Rattle.controller.specs.Parts.{Parts, proved_lower, proved_tail, proved_upper, with_bounds}
+use Rattle.controller.specs.Export.{AreKept, ExportsAreOne, parts_kept}
+use Rattle.controller.specs.Parts.{proved_lower, proved_tail, proved_upper, with_bounds}
 use Rattle.game_model.specs.Branches.{Branch}
-use Rattle.game_model.specs.Game.{GameData}
 
 same-truth : (a b : Bool) → (IsTrue a → IsTrue b) → (IsTrue b → IsTrue a) → a ≡ b
 same-truth true true f h = refl

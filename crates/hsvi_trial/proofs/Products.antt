@@ -4,8 +4,6 @@ use Rattle.std.specs.Prelude.{ℤ, pos, neg_ℤ, unsigned_abs}
 use Rattle.std.specs.List.{AllByRecursion}
 use Rattle.std.proofs.lemmas.Int.{ints}
 use Rattle.game_model.specs.Game.{GameData, IsWithin, span}
-use Rattle.game_model.specs.Branches.{IsBranch, mix_total}
-use Rattle.game_model.specs.Game.{numbers}
 use Rattle.game_model.proofs.Pay.{each-from}
 use Rattle.alpha_set.specs.Nodes.{NodeData, NodeFits}
 

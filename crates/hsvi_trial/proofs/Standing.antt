@@ -1,23 +1,16 @@
 -- Sets whose members stand, with what a visit keeps.
-use Rattle.std.proofs.Common.{◌≡◌, ◌⊎◌, ℕ, ◌+◌, ◌*◌, ◌<◌, ◌≤◌, ◌==◌, ◌&&◌, Bool, true, false, cond, Option, Some, None, List, [], ◌∷◌, ◌++◌, filter, length, map, replicate, inl, inr, refl, ap, sym, subst, ◌∙◌, arith, length-append}
+use Rattle.std.proofs.Common.{◌≡◌, ◌⊎◌, ℕ, ◌<◌, ◌≤◌, Option, Some, None, List, [], ◌∷◌, ◌++◌, length, inl, inr, ap, sym, subst, ◌∙◌, arith}
 use Rattle.std.proofs.Math.ListN.{get_or-eq_default}
-use Rattle.std.proofs.Math.Seq.{get_or-append_seam}
-use Rattle.std.proofs.lemmas.List.{get_or_append_left, length-replicate, length-set}
-use Rattle.std.specs.List.{AllByRecursion}
-use Rattle.std.specs.Prelude.{ℤ, pos, slice_index_or, unsigned_abs, ◌+ℤ◌, ◌*ℤ◌, ◌≤ℤ◌}
-use Rattle.scaled_num.specs.Sums.{below, total}
-use Rattle.scaled_num.proofs.Sums.{each, each-append, each-at, each-map, total-below, total-pos, total-same}
+use Rattle.std.proofs.lemmas.List.{get_or_append_left}
+use Rattle.std.specs.Prelude.{ℤ, slice_index_or}
 use Rattle.belief.specs.Beliefs.{corner_of}
-use Rattle.belief.proofs.Landings.{each-filter}
-use Rattle.game_model.specs.Branches.{Branch, Continuation, IsBranch, branches_at, continuation_of, mix_total}
-use Rattle.game_model.specs.Game.{GameData, IsGame, numbers, unit}
-use Rattle.game_model.specs.Numbers.{Numbers, over_row}
+use Rattle.game_model.specs.Game.{GameData, IsGame, numbers}
 use Rattle.game_model.proofs.Pay.{each-from}
 use Rattle.alpha_set.specs.Members.{most_nodes}
-use Rattle.alpha_set.specs.Nodes.{Node, NodeData, NodeFits, NodeStands, no_node, node_of, node_worth, nodes_of, steps_at, steps_worth}
+use Rattle.alpha_set.specs.Nodes.{NodeData, NodeFits, NodeStands, node_of, nodes_of}
 use Rattle.point_set.specs.Corners.{point_at}
 use Rattle.point_set.specs.Members.{most_points}
-use Rattle.point_set.specs.Points.{Point, PointData, PointFits, PointStands, most_share, no_point, point_of, point_worth, points_of, shared, shares_at}
+use Rattle.point_set.specs.Points.{PointData, PointFits, PointStands, no_point, point_of, points_of}
 use Rattle.point_set.proofs.Fitting.{fits-more}
 use Rattle.stage_game.specs.Asked.{NodesServe, PointsServe}
 use Rattle.hsvi_trial.specs.Due.{KeepsNode, KeepsPoint}

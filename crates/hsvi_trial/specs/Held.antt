@@ -1,10 +1,9 @@
 -- What a search keeps beside what clauses see of it.
-use Rattle.std.specs.Prelude.{◌+◌}
 use Rattle.std.specs.List.{AllByRecursion}
 use Rattle.game_model.specs.Game.{GameData}
 use Rattle.simplex.specs.Solver.{State}
 use Rattle.backup.specs.Rooms.{HasRooms}
-use Rattle.stage_game.specs.Asked.{BeliefFits, HasRoomForLower, HasRoomForUpper, NodesServe, PointsServe}
+use Rattle.stage_game.specs.Asked.{BeliefFits, NodesServe, PointsServe}
 use Rattle.hsvi_trial.specs.Courses.{GoesOn}
 use Rattle.hsvi_trial.specs.Data.{SearchState}
 use Rattle.hsvi_trial.specs.Run.{IsRunSoFar, IsWithinLimits}

@@ -1,4 +1,4 @@
-use Rattle.std.proofs.Common.{arith, ℕ, subst, sym, ◌+◌, ◌*◌, ◌^◌, ◌≤◌, ◌≡◌}
+use Rattle.std.proofs.Common.{ℕ, subst, sym, ◌≤◌}
 use Rattle.backup.proofs.Rooms.{rooms-size}
 use Rattle.backup.proofs.reserve.reserve_solver.Goals as goal
 

@@ -1,4 +1,4 @@
-use Rattle.std.proofs.Common.{◌≡◌, List, Option, length, subst, sym, ◌<◌, ◌∙◌, rules}
+use Rattle.std.proofs.Common.{◌≡◌, Option, length, subst, sym, ◌<◌, ◌∙◌, rules}
 use Rattle.std.proofs.lemmas.List.{get_or_default}
 use Rattle.std.specs.Prelude.{IfSome}
 use Rattle.hsvi_trial.specs.Remembered.{AreUpperSides, IsUpperSide}
