@@ -6,22 +6,20 @@ use Rattle.std.proofs.lemmas.Int.{ints}
 use Rattle.std.specs.List.{AllByRecursion}
 use Rattle.std.specs.Prelude.{ℤ, pos, slice_index_or, unsigned_abs, ◌*ℤ◌, ◌≤ℤ◌}
 use Rattle.scaled_num.specs.Share.{at}
-use Rattle.scaled_num.specs.Sums.{below, total}
 use Rattle.scaled_num.proofs.Products.{le-mulℤ, magnitude-is}
 use Rattle.scaled_num.proofs.Sums.{each-at, total-below-le, total-le, total-same}
 use Rattle.alpha_set.specs.Nodes.{NodeData, nodes_of}
-use Rattle.backup.specs.Standing.{NodesFitAndStand, PointsFitAndStand}
 use Rattle.backup.proofs.GrownSets.{long-corner}
 use Rattle.belief.specs.Beliefs.{corner_of}
-use Rattle.controller.specs.Certificates.{BoundAt, CertificateData, CertificateFits, CertificateStands, Closed, CornerAt, Ending, FractionData, Full, Holds, IsGap, IsWithinGap, OutcomeHolds, StartAt, Trials, first_total, lower_sum, node_product, places, upper_sum}
+use Rattle.controller.specs.Certificates.{BoundAt, CertificateData, CertificateFits, CertificateStands, Closed, Ending, FractionData, Holds, IsGap, IsWithinGap, OutcomeHolds, StartAt, first_total, lower_sum, node_product, places, upper_sum}
 use Rattle.controller.specs.Concluded.{EndsByGap, IsConcluded, with_outcome}
 use Rattle.controller.specs.Export.{IsExport}
 use Rattle.controller.specs.Members.{Rules}
 use Rattle.controller.specs.Parts.{PartsStand, certificate_of}
-use Rattle.controller.specs.Starts.{AreStarts, IsStart, MakesUpMultiple, most_from, most_over, weighted, weights_sum}
+use Rattle.controller.specs.Starts.{AreStarts, IsStart, most_over, weighted, weights_sum}
 use Rattle.controller.proofs.Bounded.{bounds-are, fraction-is, parts_of}
 use Rattle.controller.proofs.Places.{hold-everywhere, rules}
-use Rattle.game_model.specs.Game.{GameData, IsBelief, IsGame, IsWithin, first_at, unit}
+use Rattle.game_model.specs.Game.{GameData, IsBelief, IsWithin, first_at, unit}
 use Rattle.game_model.specs.Limits.{most_belief}
 use Rattle.game_model.proofs.Pay.{each-from}
 use Rattle.point_set.specs.Corners.{point_at}

@@ -1,9 +1,9 @@
 -- Certificates whose bounds are no worse.
-use Rattle.std.proofs.Common.{◌≡◌, ℕ, ◌*◌, ◌<◌, ◌≤◌, ap, arith, inl, inr, refl, sym, subst, ◌∙◌}
+use Rattle.std.proofs.Common.{◌≡◌, ◌≤◌, arith, refl, sym, subst, ◌∙◌}
 use Rattle.std.specs.Prelude.{ℤ, pos, unsigned_abs, ◌*ℤ◌, ◌≤ℤ◌}
 use Rattle.std.proofs.lemmas.Int.{ints}
 use Rattle.scaled_num.proofs.Products.{le-mulℤ, magnitude-is, mulℤ_comm, products, sums}
-use Rattle.controller.specs.Certificates.{CertificateData, CertificateFits, CertificateStands, FractionData, IsShort, IsWithinGap}
+use Rattle.controller.specs.Certificates.{CertificateData, CertificateFits, CertificateStands, FractionData, IsShort}
 use Rattle.controller.specs.Concluded.{EndsByGap}
 use Rattle.controller.proofs.Gap.{le-cancel}
 use Rattle.game_model.specs.Game.{GameData}

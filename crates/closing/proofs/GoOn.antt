@@ -1,13 +1,13 @@
 -- Members that go on from others, step by step.
-use Rattle.std.proofs.Common.{◌≡◌, ℕ, ◌<◌, ◌≤◌, List, length, arith, refl, ◌∙◌}
-use Rattle.std.specs.Prelude.{ℤ, ◌≤ℤ◌, slice_index_or}
+use Rattle.std.proofs.Common.{◌≡◌, ℕ, ◌<◌, List, length, arith, refl, ◌∙◌}
+use Rattle.std.specs.Prelude.{ℤ, ◌≤ℤ◌}
 use Rattle.std.specs.List.{AllByRecursion}
 use Rattle.std.proofs.lemmas.Int.{ints}
 use Rattle.alpha_set.specs.Nodes.{NodeData, NodeFits, NodeStands, nodes_of}
 use Rattle.game_model.specs.Game.{GameData, numbers}
 use Rattle.point_set.specs.Corners.{point_at}
 use Rattle.point_set.specs.Points.{PointData, PointFits, PointStands, points_of}
-use Rattle.closing.specs.Better.{AreLowered, AreNodes, ArePoints, AreRaised, NodesGoOn, PointsGoOn}
+use Rattle.closing.specs.Better.{AreNodes, ArePoints, NodesGoOn, PointsGoOn}
 
 through : {a b c : ℤ} → a ≤ℤ b → b ≤ℤ c → a ≤ℤ c
 through l m = omega (arith, ints)

@@ -1,5 +1,5 @@
 -- Members that are kept, in another's place or behind the others, and what the sets are then good for.
-use Rattle.std.proofs.Common.{◌≡◌, ◌⊎◌, ℕ, ◌+◌, ◌<◌, ◌≤◌, List, [], ◌∷◌, ◌++◌, length, inl, inr, arith, ap, sym, subst, ◌∙◌, length-append}
+use Rattle.std.proofs.Common.{◌≡◌, ℕ, ◌+◌, ◌<◌, ◌≤◌, List, [], ◌∷◌, ◌++◌, length, inl, inr, arith, ap, sym, subst, ◌∙◌, length-append}
 use Rattle.std.proofs.lemmas.List.{append-nil, get_or_append_left, length-set}
 use Rattle.std.proofs.lemmas.Int.{ints}
 use Rattle.std.specs.Prelude.{ℤ, slice_index_or, slice_set, ◌≤ℤ◌}
@@ -13,7 +13,7 @@ use Rattle.belief.specs.Beliefs.{corner_of}
 use Rattle.game_model.specs.Game.{GameData, IsBelief, IsGame, IsMass, numbers}
 use Rattle.game_model.proofs.Pay.{each-from}
 use Rattle.point_set.specs.Changes.{IsLower}
-use Rattle.point_set.specs.Corners.{HasCorner, point_at}
+use Rattle.point_set.specs.Corners.{point_at}
 use Rattle.point_set.specs.Members.{most_points}
 use Rattle.point_set.specs.Points.{PointData, PointFits, PointStands, no_point, point_of, points_of}
 use Rattle.point_set.specs.Sawtooth.{AreMeasured}

@@ -1,5 +1,4 @@
-use Rattle.std.proofs.Common.{List, sym, subst}
-use Rattle.std.specs.Prelude.{ℤ}
+use Rattle.std.proofs.Common.{sym, subst}
 use Rattle.game_model.specs.Game.{IsMass}
 use Rattle.stage_game.proofs.RightMasses.{mass-right}
 use Rattle.closing.proofs.branches.write_mass.Goals as goal

@@ -1,9 +1,7 @@
-use Rattle.std.proofs.Common.{rules, ◌≡◌, true, false}
+use Rattle.std.proofs.Common.{◌≡◌, true}
 use Rattle.std.proofs.lemmas.Result.{IfOk-weaker}
-use Rattle.std.specs.Prelude.{ℕ}
-use Rattle.controller.specs.Certificates.{Closed, Ending}
 use Rattle.controller.specs.Data.{fraction_data}
-use Rattle.closing.proofs.BetterMembers.{closer-by, closer-itself}
+use Rattle.closing.proofs.BetterMembers.{closer-by}
 use Rattle.closing.proofs.closer.close.Goals as goal
 
 pub returns : goal.returns

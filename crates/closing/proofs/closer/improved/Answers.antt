@@ -1,4 +1,3 @@
-use Rattle.std.proofs.Common.{rules}
 use Rattle.closing.proofs.Bounds.{better-through}
 use Rattle.closing.proofs.BetterMembers.{better-itself}
 use Rattle.closing.proofs.closer.improved.Goals as goal

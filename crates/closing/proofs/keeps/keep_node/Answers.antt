@@ -1,7 +1,6 @@
-use Rattle.std.proofs.Common.{rules, List, [], ◌∷◌, length, sym, subst}
+use Rattle.std.proofs.Common.{List, [], ◌∷◌, length, sym, subst}
 use Rattle.std.specs.Prelude.{ℤ}
 use Rattle.alpha_set.specs.Members.{node_data}
-use Rattle.alpha_set.specs.Nodes.{NodeData}
 use Rattle.alpha_set.specs.Worth.{AreWeighed}
 use Rattle.backup.proofs.LowerRuns.{weighed-at}
 use Rattle.closing.specs.Better.{NodesGoOn}
