@@ -173,8 +173,8 @@ pub fn over(
     (taken, write_fails): (usize, &[u32]),
 ) -> Result<(Status, Vec<u8>), Fail> {
     let words = words(alloc, command)?;
-    let mut source = MemSource::new(alloc, input, given, read_fails)?;
-    let mut sink = MemSink::new(alloc, 1 << 16, taken, write_fails)?;
+    let mut source = MemSource::new(alloc, input, given.max(1), read_fails)?;
+    let mut sink = MemSink::new(alloc, 1 << 16, taken.max(1), write_fails)?;
     let status = run(alloc, &words, &mut source, &mut sink);
     Ok((status, Vec::from_slice(alloc, sink.written())?))
 }
