@@ -39,7 +39,7 @@ fn the_seeds_of_pennies_close(rt: HostRuntime) -> Result<(), Fail> {
     assert!(rt;
         closed
             .as_slice()
-            .starts_with(b"certificate 2\noutcome closed\n")
+            .starts_with(b"certificate 1\noutcome closed\n")
     );
     Ok(())
 }
@@ -55,7 +55,7 @@ fn what_does_not_stand_is_not_made_better_or_played(rt: HostRuntime) -> Result<(
         assert!(rt; answered(alloc, command, input, "no outcome\n")? == (Status::No, true));
     }
     let other = joined(alloc, &text_of(alloc, &GUESS_THE_STATE)?, "certificate 1\n")?;
-    let refused = "certificate refused: line 1 kind 1\n";
+    let refused = "certificate refused: line 2 kind 10\n";
     for command in [["close"].as_slice(), &["simulate"]] {
         assert!(rt;
             answered(alloc, command, other.as_bytes(), refused)? == (Status::CertRefused, true)
