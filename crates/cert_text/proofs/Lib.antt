@@ -29,3 +29,4 @@ pub mod Last
 pub mod SoFar
 pub mod Final
 pub mod Refusals
+pub mod Cuts

@@ -10,5 +10,6 @@ pub mod Reading
 pub mod Made
 pub mod Answers
 pub mod Laws
+pub mod Cuts
 pub mod Draft
 pub mod Printed

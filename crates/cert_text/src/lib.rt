@@ -15,6 +15,8 @@ mod starts;
 mod texts;
 
 pub use fault::{CertFault, CertKind};
-pub use laws::{law_accepted, law_decided, law_not_refused, law_one, law_read, law_refused_once};
+pub use laws::{
+    law_accepted, law_cut, law_decided, law_not_refused, law_one, law_read, law_refused_once,
+};
 pub use printing::print;
 pub use texts::read;
