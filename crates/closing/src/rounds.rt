@@ -73,15 +73,31 @@ fn visit_all(
     let mut frontier = Frontier::of(alloc, game)?;
     explore(alloc, game, &mut frontier, nodes, points)?;
     for s in 0..game.states() {
-        visit_again(
-            alloc,
-            game,
-            &Belief::corner(game.states(), s),
-            nodes,
-            points,
-        )?;
+        visit_corner(alloc, game, s, nodes, points)?;
     }
     go_back(alloc, game, &frontier.visited, nodes, points)
+}
+
+/// Visits the belief that is sure of a state.
+fn visit_corner(
+    alloc: Global,
+    game: &Game,
+    state: u32,
+    nodes: &mut NodeSet,
+    points: &mut PointSet,
+) -> Result<(), AllocError>
+    requires state { state < game.now.shape.states }
+    requires nodes { AreNodes game.now nodes.old.members }
+    requires points { ArePoints game.now points.old.members }
+    ensures nodes { NodesGoOn game.now nodes.old.members nodes.new.members }
+    ensures points { PointsGoOn game.now points.old.members points.new.members }
+{
+    law_game(game);
+    let corner = Belief::corner(game.states(), state);
+    if is_of_game(game, &corner) {
+        visit(alloc, game, &corner, nodes, points)?;
+    }
+    Ok(())
 }
 
 /// Visits the open beliefs, the one of greatest gap first, until none is open or the budget is used.

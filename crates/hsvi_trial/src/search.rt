@@ -130,12 +130,28 @@ impl<'g> Search<'g> {
         self.journal.len() as u32
     }
 
-    /// Makes the next visit, or tells how the run ended.
+    /// Makes the next visit, or tells how the run ended. What the search then holds is a front of what every run of
+    /// solve for this game, budget and gap answers.
     ///
     /// # Errors
     ///
     /// Where no memory is to be had. Sets and journal are then as before, and a later step makes the same visit.
     pub fn step(&mut self) -> Result<Progress, AllocError>
+        ensures task { self.new.task ≡ self.old.task }
+        ensures visited { result ≡ Ok Progress.Visited →
+            (visit : VisitParts) × (self.new.journal ≡ self.old.journal ++ visit ∷ []) }
+        ensures ended { (outcome : Outcome) → result ≡ Ok (Progress.Ended outcome) →
+            (self.new ≡ self.old) × EndsWith self.old (ending_of outcome) }
+        ensures unchanged { OnErr result (self.new ≡ self.old) }
+        ensures front { IsRunFront self.new.task self.new.sets self.new.journal }
+    {
+        let progress = self.advance();
+        let _visits = self.visits();
+        progress
+    }
+
+    /// Makes the next visit, or tells how the run ended.
+    fn advance(&mut self) -> Result<Progress, AllocError>
         ensures task { self.new.task ≡ self.old.task }
         ensures visited { result ≡ Ok Progress.Visited →
             (visit : VisitParts) × (self.new.journal ≡ self.old.journal ++ visit ∷ []) }

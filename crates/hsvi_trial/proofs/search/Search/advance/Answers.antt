@@ -27,7 +27,7 @@ use Rattle.hsvi_trial.proofs.Remembering.{lower-left, lower-sides-go-on, upper-l
 use Rattle.hsvi_trial.proofs.Repeating.{held-copied, repeat-copied, repeats-stepped}
 use Rattle.hsvi_trial.proofs.Stepped.{IsStep, ends-with, held-stepped, place-more}
 use Rattle.hsvi_trial.proofs.VisitParts.{visit_of}
-use Rattle.hsvi_trial.proofs.search.Search.step.Goals as goal
+use Rattle.hsvi_trial.proofs.search.Search.advance.Goals as goal
 
 pub end_of-requires-clause-start : goal.end_of-requires-clause-start
 end_of-requires-clause-start c = has-start _ c.self.inside.course c.self.inside.solver c.law_game.ensures.accepted c.self.invariant.0
