@@ -21,7 +21,7 @@ lack_more : (b : ℕ) (text : List ℕ) (is : Bool) → is_feed b ≡ is → All
 lack_more b text true e h = subst (AllByRecursion (Lacks is_feed)) (sym (slice_split-cons_yes is_feed b text e)) (tt, h)
 lack_more b text false e h = subst (AllByRecursion (Lacks is_feed)) (sym (slice_split-cons_no is_feed b text e)) (onto_lacks b (slice_split is_feed text) e h)
 
-pieces_lack : (text : List ℕ) → AllByRecursion (Lacks is_feed) (slice_split is_feed text)
+pub pieces_lack : (text : List ℕ) → AllByRecursion (Lacks is_feed) (slice_split is_feed text)
 pieces_lack [] = (tt, tt)
 pieces_lack (b ∷ text) = lack_more b text (is_feed b) refl (pieces_lack text)
 
@@ -36,7 +36,7 @@ record Cut (before : ℕ) (bytes : List ℕ) (view : List Worded) (n : ℕ) : Ty
   kept : (other : List ℕ)
       → (more : List Line) × (map words_at (worded_in before (front ++ other)) ≡ take (suc n) (map words_at view) ++ more) × (get_or (afters (worded_in before (front ++ other))) n [] ≡ other)
 
-pieces_at : (piece front other : List ℕ) → Lacks is_feed piece → pieces_of ((piece ++ 10 ∷ front) ++ other) ≡ piece ∷ pieces_of (front ++ other)
+pub pieces_at : (piece front other : List ℕ) → Lacks is_feed piece → pieces_of ((piece ++ 10 ∷ front) ++ other) ≡ piece ∷ pieces_of (front ++ other)
 pieces_at piece front other lacks = ap pieces_of (append_assoc piece (10 ∷ front) other) ∙ split_at is_feed piece 10 (front ++ other) lacks refl
 
 abbrev line_with : ℕ → List ℕ → Line → Worded

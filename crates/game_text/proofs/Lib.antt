@@ -29,3 +29,5 @@ pub mod Written
 pub mod AnyRest
 pub mod Wordless
 pub mod Canonical
+pub mod CutWords
+pub mod Cuts

@@ -42,7 +42,7 @@ refused_behind text before rest OutOfMemory ends more = tt
 
 -- ---- bytes that are read alone
 
-whole_end : (text : List ℕ) → is_end (open_words text) ≡ false → completed text ≡ text
+pub whole_end : (text : List ℕ) → is_end (open_words text) ≡ false → completed text ≡ text
 unfolding completed ends_open
 whole_end text e = ap (λ (b : Bool). cond b (text ++ 10 ∷ []) text) e
 
@@ -50,7 +50,7 @@ open_end : (text : List ℕ) → is_end (open_words text) ≡ true → completed
 unfolding completed ends_open
 open_end text e = ap (λ (b : Bool). cond b (text ++ 10 ∷ []) text) e
 
-told_whole : (text : List ℕ) (number : ℕ) (kind : Kind) → is_end (open_words text) ≡ false → told text number kind ≡ kind
+pub told_whole : (text : List ℕ) (number : ℕ) (kind : Kind) → is_end (open_words text) ≡ false → told text number kind ≡ kind
 unfolding told ends_open
 told_whole text number kind e = ap (λ (b : Bool). cond (b && (number == length (pieces_of text))) (told_open kind) kind) e
 

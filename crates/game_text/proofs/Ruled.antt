@@ -37,12 +37,12 @@ said_due [] line entry h = tt
 said_due (End ∷ before) line entry h = nothing_said entry (entry_of (End ∷ before) line) (ended_says before line) h
 said_due (_ ∷ before) line entry h = tt
 
-form_due : (before : List Entry) (form : Form) → IsOneOf (due before) form → IsUnfinished before
+pub form_due : (before : List Entry) (form : Form) → IsOneOf (due before) form → IsUnfinished before
 form_due [] form d = tt
 form_due (End ∷ before) form d = d
 form_due (_ ∷ before) form d = tt
 
-say_passed : (lines : List Line) (es : List Entry) → Say lines es → ArePassed lines es
+pub say_passed : (lines : List Line) (es : List Entry) → Say lines es → ArePassed lines es
 unfolding entry_read
 say_passed [] [] say = tt
 say_passed [] (e ∷ es) say = say

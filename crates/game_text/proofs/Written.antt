@@ -46,7 +46,7 @@ byte_apart b lt = (omega arith, grind (arith, nat_tests), grind (arith, nat_test
 abbrev IsQuiet : ℕ → Type 0
 IsQuiet b = (13 < b) × (eqb b 35 ≡ false) × (eqb b 10 ≡ false)
 
-all_append : (P : ℕ → Type 0) (xs ys : List ℕ) → AllByRecursion P xs → AllByRecursion P ys → AllByRecursion P (xs ++ ys)
+pub all_append : (P : ℕ → Type 0) (xs ys : List ℕ) → AllByRecursion P xs → AllByRecursion P ys → AllByRecursion P (xs ++ ys)
 all_append P [] ys h k = k
 all_append P (x ∷ xs) ys h k = (h.0, all_append P xs ys h.1 k)
 
@@ -86,10 +86,10 @@ word_gaps (b ∷ word) h = (no_gap b h.0, word_gaps word h.1)
     no_gap : (b : ℕ) → 35 < b → is_gap b ≡ false
     no_gap b lt = grind (arith, nat_tests)
 
-abbrev has_bytes : Word → Bool
+abbrev pub has_bytes : Word → Bool
 has_bytes word = ltb 0 (length word)
 
-filter_keeps : (word : Word) (words : Line) → 0 < length word → filter has_bytes (word ∷ words) ≡ word ∷ filter has_bytes words
+pub filter_keeps : (word : Word) (words : Line) → 0 < length word → filter has_bytes (word ∷ words) ≡ word ∷ filter has_bytes words
 filter_keeps word words some = ap (λ (b : Bool). cond b (word ∷ filter has_bytes words) (filter has_bytes words)) (longer (length word) some)
   where
     longer : (n : ℕ) → 0 < n → ltb 0 n ≡ true

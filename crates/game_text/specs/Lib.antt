@@ -14,3 +14,4 @@ pub mod Header
 pub mod Limits
 pub mod Answers
 pub mod Built
+pub mod Cuts

@@ -1,6 +1,8 @@
 //! Laws that make acceptance and refusal exact.
 ghost use Rattle.game_text.specs.Laws.{AnyRest, Decided, DecidedAlone, FrontRefusedOnce, LinesAreTexts, RefusedOnce, TextsAreGames, TextsAreNotRefused, TextsAreRead, WholeTextsAreGames, WholeTextsAreNotRefused};
 ghost use Rattle.game_text.specs.Laws.{CanonicalTexts};
+ghost use Rattle.std.specs.Prelude.{take};
+ghost use Rattle.game_text.specs.Cuts.{IsCutBeforeEnd, IsMissing};
 
 /// A law: the canonical text of a game is a text of it.
 pub fn law_canonical()
@@ -60,4 +62,10 @@ pub fn law_decided()
 /// A law: bytes are a text of a game, or are refused where they are read alone.
 pub fn law_decided_alone()
     ensures { DecidedAlone }
+{}
+
+/// A law: a text of a game that is cut before the last byte of its word `end` is refused: the line in which it is cut is missing.
+pub fn law_cut(bytes: &[u8], at: usize)
+    requires { IsCutBeforeEnd bytes.now at }
+    ensures { IsMissing (take at bytes.now) }
 {}

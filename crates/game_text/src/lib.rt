@@ -16,7 +16,7 @@ mod texts;
 
 pub use fault::{Kind, TextFault};
 pub use laws::{
-    law_accepted, law_any_rest, law_canonical, law_decided, law_decided_alone,
+    law_accepted, law_any_rest, law_canonical, law_cut, law_decided, law_decided_alone,
     law_front_refused_once, law_games, law_not_refused, law_read, law_refused_once,
     law_whole_games, law_whole_not_refused,
 };
