@@ -3,6 +3,8 @@
 #![tactic(auto)]
 
 #[cfg(test)]
+mod full;
+#[cfg(test)]
 mod games;
 #[cfg(test)]
 mod repeats;
