@@ -11,26 +11,29 @@ import tempfile
 from pathlib import Path
 
 TOP = Path(__file__).resolve().parents[2]
-PROGRAM = TOP / "crates/osposg_cli/out/osposg_cli"
+PROGRAM = Path(sys.argv[1]).resolve() if len(sys.argv) > 1 else TOP / "crates/osposg_cli/out/osposg_cli"
 OUT_OF_MEMORY = 8
-# The games whose search is short enough to be made once for each of its calls for memory.
+GAMES = TOP / "games"
+# The games that are short enough to be read once for each call for memory, and those that are solved as often.
+SHORT = ("guess-the-state", "matching-pennies", "patrol")
 SOLVED = ("guess-the-state", "matching-pennies")
+THREE_HALVED = b"osposg 1\nsize 1 1 1 1\ntotal 1\ndiscount 1 2\nfirst 1\nstep 0 0 0 3\nout 0 0 1\nend\n"
 
 
-def run(command, text, **environment):
+def run(words, text, **environment):
     """The exit status and what was written, on standard output and error."""
-    done = subprocess.run([PROGRAM, command], input=text, capture_output=True, env={**os.environ, **environment})
+    done = subprocess.run([PROGRAM, *words], input=text, capture_output=True, env={**os.environ, **environment})
     return done.returncode, done.stdout + done.stderr
 
 
-def refuse_each(shim, command, name, text):
+def refuse_each(shim, words, name, text):
     """Refuses each call for memory of a run on the text, and prints how many runs ended how."""
-    answer = run(command, text)
+    command, answer = " ".join(words), run(words, text)
     wanting = (OUT_OF_MEMORY, b"")
     number, without = 1, 0
     while True:
         here = {"LD_PRELOAD": str(shim), "REFUSE": str(number)}
-        once, later = run(command, text, **here), run(command, text, **here, REFUSE_LATER="1")
+        once, later = run(words, text, **here), run(words, text, **here, REFUSE_LATER="1")
         if later == answer:
             break
         if later != wanting or once not in (wanting, answer):
@@ -40,18 +43,33 @@ def refuse_each(shim, command, name, text):
     print(f"{command} {name}: {number - 1} calls; refused alone, {without} of them were done without")
 
 
+def runs():
+    """The words, a name and the input of each run."""
+    yield ["gen", "--number", "1", "--size", "3"], "", b""
+    yield ["gen", "--number", "1", "--size", "2", "--trials", "1"], "", b""
+    for path in sorted(GAMES.glob("*.game")):
+        if path.stem not in SHORT:
+            continue
+        game = path.read_bytes()
+        for command in ("floor", "show"):
+            yield [command], path.name, game
+        if path.stem in SOLVED:
+            yield ["solve"], path.name, game
+            seeds = run(["solve", "--trials", "0", "--gap", "0/1"], game)[1]
+            yield ["close", "--rounds", "1", "--gap", "0/1"], f"{path.name} with its seeds", game + seeds
+        both = game + path.with_suffix(".cert").read_bytes()
+        yield ["check"], f"{path.name} with its certificate", both
+        yield ["simulate", "--stages", "3", "--rival", "points"], f"{path.name} with its certificate", both
+    solved = run(["solve"], THREE_HALVED)[1]
+    yield ["check"], "three halved with what solve writes", THREE_HALVED + solved
+
+
 def main():
-    games = TOP / "games"
     with tempfile.TemporaryDirectory() as folder:
         shim = Path(folder) / "refuse.so"
         subprocess.run(["cc", "-O2", "-shared", "-fPIC", "-o", shim, Path(__file__).with_name("refuse.c")], check=True)
-        for game in sorted(games.glob("*.game")):
-            refuse_each(shim, "floor", game.name, game.read_bytes())
-            if game.stem in SOLVED:
-                refuse_each(shim, "solve", game.name, game.read_bytes())
-            certificate = game.with_suffix(".cert")
-            if certificate.exists():
-                refuse_each(shim, "check", game.name, game.read_bytes() + certificate.read_bytes())
+        for words, name, text in runs():
+            refuse_each(shim, words, name, text)
 
 
 main()
