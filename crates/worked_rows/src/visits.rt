@@ -1,6 +1,6 @@
 //! Worked visits of first beliefs on seeds: what they make.
 
-ghost use Rattle.hsvi_trial.specs.Held.{HasRooms};
+ghost use Rattle.backup.specs.Rooms.{HasRooms};
 ghost use Rattle.std.specs.Prelude.{IfOk};
 
 use crate::seeds::{guess, pennies};

@@ -1,5 +1,5 @@
 use Rattle.std.proofs.Common.{subst, sym}
-use Rattle.hsvi_trial.proofs.Rooms.{lower-rooms, upper-moved, upper-rooms}
+use Rattle.backup.proofs.Rooms.{lower-rooms, upper-moved, upper-rooms}
 use Rattle.stage_game.specs.Asked.{BeliefFits}
 use Rattle.worked_rows.proofs.SeedsServe.{first-fits}
 use Rattle.worked_rows.proofs.visits.visited.Goals as goal
