@@ -6,5 +6,4 @@ pub mod Clamped
 pub mod Stepping
 pub mod ForPairs
 pub mod Wishing
-pub mod RestMasses
 pub mod OneStarts

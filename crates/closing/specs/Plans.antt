@@ -4,9 +4,8 @@ use Rattle.std.specs.List.{AllByRecursion}
 use Rattle.scaled_num.specs.Share.{at}
 use Rattle.scaled_num.specs.Sums.{below, total}
 use Rattle.game_model.specs.Branches.{Branch, IsBranchBefore, mix_total}
-use Rattle.alpha_set.specs.Nodes.{NodeData, NodeFits, NodeStands, node_of, nodes_of}
-use Rattle.game_model.specs.Game.{GameData, IsWithin, numbers}
-use Rattle.point_set.specs.Points.{PointData, PointFits, PointStands, point_of, points_of}
+use Rattle.game_model.specs.Game.{GameData, IsWithin}
+use Rattle.point_set.specs.Points.{PointData}
 use Rattle.point_set.specs.Split.{IsWanted, is_corner, most_others, most_wish}
 use Rattle.stage_game.specs.Masses.{over_pairs}
 
@@ -76,21 +75,3 @@ pub record TakesWish (corners : List ℕ) (a o k others later : ℕ) (old new : 
   pub added : List Branch
   pub same : new ≡ old ++ added
   pub right : (before : List Branch) → AreWished corners a o k others before → AreWished corners a o (k + 1) later (before ++ added)
-
--- what is left of a mass: in each place from 0 to what was there
-pub record IsRest (old new : List ℤ) : Type 0 where
-  pub long : length new ≡ length old
-  pub each : (s : ℕ) → s < length old → IsWithin (pos 0) (at old s) (at new s)
-
--- a node that fits a game and stands among nodes, also when others come behind them
-pub record IsFoundNode (g : GameData) (nodes : List NodeData) (node : NodeData) : Type 0 where
-  pub fits : NodeFits g (length nodes) node
-  pub stands : NodeStands (numbers g) (nodes_of nodes) (node_of node)
-  pub stays : (more : List NodeData) → NodeStands (numbers g) (nodes_of (nodes ++ more)) (node_of node)
-
--- a point of a belief that fits a game and stands among points, also when others come behind them
-pub record IsFoundPoint (g : GameData) (belief : List ℤ) (points : List PointData) (point : PointData) : Type 0 where
-  pub same : point.belief ≡ belief
-  pub fits : PointFits g (length points) point
-  pub stands : PointStands (numbers g) (points_of points) (point_of point)
-  pub stays : (more : List PointData) → PointStands (numbers g) (points_of (points ++ more)) (point_of point)

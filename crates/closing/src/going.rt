@@ -5,12 +5,13 @@ ghost use Rattle.point_set.specs.Sawtooth.{AreMeasured};
 ghost use Rattle.stage_game.specs.Fits.{MixesFit};
 ghost use Rattle.std.specs.Prelude.{length, ◌<◌, ◌≡◌, ◌≤◌};
 
+use crate::hulls::Hull;
 use crate::places::{ENDS, PAIRS, end_place, pair_place};
 use crate::sums::{product, ratio};
 use alpha_set::NodeSet;
 use belief::{Belief, Mixes, mass};
 use game_model::{Game, MOST_STATES, law_game};
-use point_set::{Point, PointSet};
+use point_set::PointSet;
 
 /// What going on is worth.
 #[derive(Drop)]
@@ -137,14 +138,20 @@ fn copy_front(from: &[i128], to: &mut [i128])
 }
 
 /// What going on is worth by the points.
-pub fn going_by_points(game: &Game, belief: &Belief, mixes: &Mixes, points: &PointSet) -> Going
+pub fn going_by_points(
+    game: &Game,
+    belief: &Belief,
+    mixes: &Mixes,
+    points: &PointSet,
+    hull: &mut Hull,
+) -> Going
     requires belief { BeliefFits game.now belief.now }
     requires points { PointsServe game.now points.now.members }
     requires mixes { MixesFit game.now mixes.now }
 {
     let mut going = Going::new();
     for a in 0..game.own_actions() {
-        by_points_after(game, belief, mixes, points, a, &mut going);
+        by_points_after(game, belief, mixes, points, hull, a, &mut going);
     }
     going
 }
@@ -155,6 +162,7 @@ fn by_points_after(
     belief: &Belief,
     mixes: &Mixes,
     points: &PointSet,
+    hull: &mut Hull,
     a: u32,
     going: &mut Going,
 )
@@ -164,17 +172,18 @@ fn by_points_after(
     requires own { a < game.now.shape.own_actions }
 {
     for o in 0..game.observations() {
-        by_points(game, belief, mixes, points, a, o, going);
+        by_points(game, belief, mixes, points, hull, a, o, going);
     }
 }
 
-/// Keeps what going on is worth by the points after an own action and an observation: the sawtooth bound of the mass,
-/// and the slopes of the best point there.
+/// Keeps what going on is worth by the points after an own action and an observation: the plane through the points
+/// among which the mass is divided.
 fn by_points(
     game: &Game,
     belief: &Belief,
     mixes: &Mixes,
     points: &PointSet,
+    hull: &mut Hull,
     a: u32,
     o: u32,
     going: &mut Going,
@@ -189,63 +198,7 @@ fn by_points(
     let mut places = [0; MOST_STATES];
     let next = &mut places[..game.states() as usize];
     mass(game, belief, mixes, a, o, next);
-    let mut ends = [0; MOST_STATES];
-    corner_values(game, points, &mut ends);
-    let value = bent(game, points, next, &mut ends);
-    going.keep(pair_place(game, a, o), value, &ends, 0);
-}
-
-/// Writes the value of the current corner of each state.
-fn corner_values(game: &Game, points: &PointSet, ends: &mut [i128; MOST_STATES])
-    requires { PointsServe game.now points.now.members }
-{
-    law_game(game);
-    for s in 0..game.states() {
-        ends[s as usize] = points.point(points.corner(s)).value;
-    }
-}
-
-/// The sawtooth bound of a mass. Where a point is best there, the worth of the state that it uses up first becomes what
-/// makes its belief worth its value.
-fn bent(game: &Game, points: &PointSet, mass: &[i128], ends: &mut [i128; MOST_STATES]) -> i128
-    requires { AreMeasured points.now.members mass.now }
-{
-    if let Some(k) = points.best(mass) {
-        bend(game, points.point(k), mass, ends);
-    }
-    points.sawtooth(mass)
-}
-
-/// Makes the belief of a point worth its value, by the worth of the state that it uses up first.
-fn bend(game: &Game, point: &Point, mass: &[i128], ends: &mut [i128; MOST_STATES]) {
-    let parts = point.belief.parts();
-    let place = tight_place(mass, parts);
-    let part = match parts.get(place) {
-        Some(part) => *part,
-        None => 0,
-    };
-    if part <= 0 {
-        return;
-    }
-    let missing = point.value.saturating_sub(product(parts, ends));
-    let step = ratio(missing, part);
-    let span = game.span();
-    if let Some(end) = ends.get_mut(place) {
-        *end = end.saturating_add(step).min(span);
-    }
-}
-
-/// The place where a belief uses a mass up first: that of the least mass for its part, the first of equal ones.
-fn tight_place(mass: &[i128], parts: &[i128]) -> usize {
-    let mut best = 0;
-    let mut least = i128::MAX;
-    let mut portion = 1;
-    for (place, (weight, part)) in mass.iter().zip(parts).enumerate() {
-        if *part > 0 && weight.saturating_mul(portion) < part.saturating_mul(least) {
-            best = place;
-            least = *weight;
-            portion = *part;
-        }
-    }
-    best
+    let pair = pair_place(game, a, o);
+    let ends = hull.divide(game, points, pair, next);
+    going.keep(pair, product(next, &ends), &ends, 0);
 }

@@ -4,20 +4,24 @@
 mod branches;
 mod closer;
 mod export;
+mod fixed;
+mod gains;
 mod going;
+mod hulls;
 mod keeps;
+mod master;
 mod matching;
 mod places;
-mod regrets;
 mod restarts;
 mod rounds;
 mod sharing;
 mod signs;
+mod stages;
 mod starts;
 mod steps;
 mod sums;
 mod sweeps;
-mod teeth;
+mod tables;
 mod visits;
 mod wishes;
 

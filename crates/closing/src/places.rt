@@ -10,6 +10,9 @@ pub const OWN_PLACES: usize = 6;
 /// A weight for each action of a player.
 pub type Weights = [i128; OWN_PLACES];
 
+/// How many observations there are at most.
+pub const SEEN_PLACES: usize = 8;
+
 /// How many pairs of an own action and an observation there are at most.
 pub const PAIRS: usize = 48;
 

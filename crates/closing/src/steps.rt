@@ -7,75 +7,11 @@ ghost use Rattle.scaled_num.specs.Share.{at};
 ghost use Rattle.stage_game.specs.AdviceData.{has_weight};
 ghost use Rattle.std.specs.Prelude.{IfOk, filter, length, map, slice_index, ◌++◌, ◌<◌, ◌≡◌, ◌≤◌};
 
-use crate::places::{OWN_PLACES, PAIRS, Weights, add_at, pair_place};
-use crate::regrets::SUM_OF_SQUARES;
 use crate::sharing::share;
+use crate::stages::Stage;
 use alpha_set::Step;
-use game_model::{Game, MIX_TOTAL, law_game};
+use game_model::Game;
 use std::alloc::{AllocError, Global};
-
-/// How many rounds are played.
-pub const ROUNDS: usize = 30;
-
-/// What player one did in each round.
-#[derive(Drop)]
-pub struct Plays {
-    /// The own mix, times the squared number of the round.
-    mixes: [Weights; ROUNDS],
-    /// The node after each own action and observation.
-    nodes: [[u32; PAIRS]; ROUNDS],
-}
-
-impl Plays {
-    /// Nothing is played yet.
-    pub fn new() -> Plays {
-        Plays {
-            mixes: [[0; OWN_PLACES]; ROUNDS],
-            nodes: [[0; PAIRS]; ROUNDS],
-        }
-    }
-
-    /// Keeps what player one did in a round, counted from 0.
-    pub fn keep(&mut self, round: u32, mix: &Weights, nodes: &[u32; PAIRS])
-        requires { round < 30 }
-    {
-        let times = i128::from(round + 1) * i128::from(round + 1);
-        let mut weights = *mix;
-        for place in 0..OWN_PLACES {
-            weights[place] = weights[place].saturating_mul(times);
-        }
-        self.mixes[round as usize] = weights;
-        self.nodes[round as usize] = *nodes;
-    }
-
-    /// Adds to the weight of each node what it was chosen with after an own action and an observation, so many times.
-    fn weigh(&self, game: &Game, a: u32, o: u32, times: i128, weights: &mut [i128])
-        requires own { a < game.now.shape.own_actions }
-        requires seen { o < game.now.shape.observations }
-        ensures { length weights.new ≡ length weights.old }
-    {
-        law_game(game);
-        let pair = pair_place(game, a, o);
-        for round in 0..ROUNDS {
-            let more = self.mixes[round][a as usize].saturating_mul(times);
-            add_at(weights, self.nodes[round][pair], more);
-        }
-    }
-}
-
-/// Adds to the weight of each node what steps after an own action and an observation give to it, so many times.
-fn weigh_steps(steps: &[Step], a: u32, o: u32, times: i128, weights: &mut [i128])
-    ensures { length weights.new ≡ length weights.old }
-{
-    for step in steps {
-        let more = if step.a == a && step.o == o {
-            step.weight.saturating_mul(times)
-        } else {
-            0
-        };
-        add_at(weights, step.k, more);
-    }
-}
 
 /// Adds a step to each node that has a share.
 fn push_steps(a: u32, o: u32, shares: &[i128], next: &mut Vec<Step>) -> Result<(), AllocError>
@@ -100,9 +36,7 @@ fn push_steps(a: u32, o: u32, shares: &[i128], next: &mut Vec<Step>) -> Result<(
 /// Adds the steps after an own action and an observation. The slices of weights and shares are overwritten.
 fn push_steps_after(
     game: &Game,
-    plays: &Plays,
-    part: i128,
-    old: &[Step],
+    stage: &Stage,
     own: &[i128],
     a: u32,
     o: u32,
@@ -123,16 +57,7 @@ fn push_steps_after(
         (map branch_of next.new.items)) }
 {
     weights.fill(0);
-    plays.weigh(game, a, o, part, weights);
-    weigh_steps(
-        old,
-        a,
-        o,
-        MIX_TOTAL
-            .saturating_sub(part)
-            .saturating_mul(SUM_OF_SQUARES),
-        weights,
-    );
+    stage.weigh(a, o, weights);
     share(weights, own[a as usize], shares);
     push_steps(a, o, shares, next)
 }
@@ -140,9 +65,7 @@ fn push_steps_after(
 /// Adds the steps after an own action.
 fn push_steps_of(
     game: &Game,
-    plays: &Plays,
-    part: i128,
-    old: &[Step],
+    stage: &Stage,
     own: &[i128],
     a: u32,
     weights: &mut [i128],
@@ -161,7 +84,7 @@ fn push_steps_of(
         (map branch_of next.old.items) (map branch_of next.new.items)) }
 {
     for o in 0..game.observations() {
-        push_steps_after(game, plays, part, old, own, a, o, weights, shares, next)?;
+        push_steps_after(game, stage, own, a, o, weights, shares, next)?;
     }
     Ok(())
 }
@@ -175,9 +98,7 @@ fn push_steps_of(
 pub fn steps_of(
     alloc: Global,
     game: &Game,
-    plays: &Plays,
-    part: i128,
-    old: &[Step],
+    stage: &Stage,
     own: &[i128],
     nodes: u32,
 ) -> Result<Vec<Step>, AllocError>
@@ -193,9 +114,7 @@ pub fn steps_of(
     for a in 0..game.own_actions() {
         push_steps_of(
             game,
-            plays,
-            part,
-            old,
+            stage,
             own,
             a,
             &mut weights,

@@ -11,8 +11,9 @@ ghost use Rattle.std.specs.Bool.{IsTrue};
 ghost use Rattle.std.specs.List.{All};
 ghost use Rattle.std.specs.Prelude.{IfOk, length, map, pos, slice_index, ℕ, ◌<◌, ◌≡◌, ◌≤◌};
 
+use crate::hulls::Hull;
+use crate::places::pair_place;
 use crate::sums::ratio;
-use crate::teeth::weigh_teeth;
 use belief::{Belief, Mixes, mass};
 use game_model::{Game, MOST_STATES, law_game};
 use point_set::{MOST_POINTS, PointSet, Share};
@@ -126,6 +127,7 @@ fn push_wishes_after(
     belief: &Belief,
     mixes: &Mixes,
     points: &PointSet,
+    hull: &mut Hull,
     a: u32,
     o: u32,
     weights: &mut [i128],
@@ -149,7 +151,9 @@ fn push_wishes_after(
     let next = &mut places[..states];
     mass(game, belief, mixes, a, o, next);
     weights.fill(0);
-    weigh_teeth(points, next, weights);
+    let pair = pair_place(game, a, o);
+    hull.divide(game, points, pair, next);
+    hull.weigh(pair, weights);
     scale_down(weights);
     let mut numbers = [0; MOST_STATES];
     let corners = &mut numbers[..states];
@@ -163,6 +167,7 @@ fn push_wishes_of(
     belief: &Belief,
     mixes: &Mixes,
     points: &PointSet,
+    hull: &mut Hull,
     a: u32,
     weights: &mut [i128],
     wishes: &mut Vec<Share>,
@@ -178,7 +183,7 @@ fn push_wishes_of(
         (map branch_of wishes.old.items) (map branch_of wishes.new.items)) }
 {
     for o in 0..game.observations() {
-        push_wishes_after(game, belief, mixes, points, a, o, weights, wishes)?;
+        push_wishes_after(game, belief, mixes, points, hull, a, o, weights, wishes)?;
     }
     Ok(())
 }
@@ -194,6 +199,7 @@ pub fn wishes_of(
     belief: &Belief,
     mixes: &Mixes,
     points: &PointSet,
+    hull: &mut Hull,
 ) -> Result<Vec<Share>, AllocError>
     requires belief { BeliefFits game.now belief.now }
     requires mixes { MixesFit game.now mixes.now }
@@ -204,7 +210,7 @@ pub fn wishes_of(
     let mut weights = vec![in alloc; 0; points.len() as usize]?;
     let mut wishes = Vec::new(alloc);
     for a in 0..game.own_actions() {
-        push_wishes_of(game, belief, mixes, points, a, &mut weights, &mut wishes)?;
+        push_wishes_of(game, belief, mixes, points, hull, a, &mut weights, &mut wishes)?;
     }
     Ok(wishes)
 }

@@ -10,5 +10,5 @@ pub returns : goal.returns
 returns c =
     lower-fits c.args.game.now (length c.args.nodes.now.members) _ c.in_ok-own.ensures
     (subst (λ (n : ℕ). AreForPairs c.args.game.now (λ a o. AreStepsFor n a o (at c.in_ok-own.own.items a)) (map branch_of c.in_ok-next.next.items)) c.len.ensures.count
-    (subst (λ (xs : List ℤ). AreForPairs c.args.game.now (λ a o. AreStepsFor c.len.result a o (at xs a)) (map branch_of c.in_ok-next.next.items)) c.deref-3.ensures.value c.in_ok-next.ensures))
+    (subst (λ (xs : List ℤ). AreForPairs c.args.game.now (λ a o. AreStepsFor c.len.result a o (at xs a)) (map branch_of c.in_ok-next.next.items)) c.deref.ensures.value c.in_ok-next.ensures))
     c.in_ok-informed.ensures

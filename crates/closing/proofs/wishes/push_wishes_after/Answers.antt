@@ -1,24 +1,10 @@
-use Rattle.std.proofs.Common.{◌<◌, ℕ, List, length, map, subst, sym, arith}
+use Rattle.std.proofs.Common.{◌<◌, ℕ, List, length, map, arith}
 use Rattle.std.proofs.lemmas.Result.{IfOk-weaker}
 use Rattle.game_model.specs.Branches.{Branch, branch_of}
-use Rattle.game_model.specs.Game.{GameData, IsMass}
 use Rattle.point_set.specs.Points.{PointData}
-use Rattle.stage_game.proofs.RightMasses.{mass-right}
 use Rattle.closing.specs.Plans.{AddsSuch, AreWished, AreWishesFor}
 use Rattle.closing.proofs.Wishing.{wished-right}
 use Rattle.closing.proofs.wishes.push_wishes_after.Goals as goal
-
-pub weigh_teeth-requires : goal.weigh_teeth-requires
-weigh_teeth-requires c =
-    let g : GameData = c.args.game.now in
-    record {
-      game = g;
-      accepted = c.law_game.ensures.accepted;
-      fit = c.requires.points.fit;
-      corners = c.requires.points.corners;
-      right = subst (IsMass g) (sym c.mass.ensures.list)
-          (mass-right g c.law_game.ensures.accepted c.args.belief.now c.requires.belief.right c.args.mixes.now c.requires.mixes c.args.a c.args.o c.requires.own c.requires.seen);
-    }
 
 pub returns-clause-wishes : goal.returns-clause-wishes
 returns-clause-wishes c =

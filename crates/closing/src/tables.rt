@@ -1,0 +1,126 @@
+//! Points as a linear program sees them: each belief as parts of one total, and what a unit of its mass costs.
+
+use crate::fixed::{normal_part, word};
+use crate::sums::ratio;
+use game_model::MOST_STATES;
+use point_set::{Point, PointSet};
+use std::alloc::{AllocError, Global};
+
+/// How many bits the total of the parts of a belief has.
+const PART_BITS: u32 = 26;
+
+/// How many more bits one has.
+const LESS_BITS: u32 = 14;
+
+/// Costs are below this in magnitude.
+const MOST_COST: i128 = 1 << 34;
+
+/// What a unit costs, where costs need not be divided.
+const UNIT_COST: i128 = 256;
+
+/// A point. Its parts add up to at most 2^26, so that a sum of parts by heights below 2^36 has 63 bits.
+#[derive(Clone, Copy)]
+struct Row {
+    /// The belief, in parts of 2^26.
+    parts: [i64; MOST_STATES],
+    /// What a unit of mass costs.
+    cost: i64,
+}
+
+/// Points in order.
+#[derive(Drop)]
+pub struct PointTable {
+    rows: Vec<Row>,
+    /// Costs are units times 256 over this.
+    divisor: i128,
+}
+
+impl PointTable {
+    /// The points of a set.
+    ///
+    /// # Errors
+    ///
+    /// Where no memory is to be had.
+    pub fn of(alloc: Global, points: &PointSet) -> Result<PointTable, AllocError> {
+        let divisor = ratio(greatest_cost(points), MOST_COST).saturating_add(1);
+        let mut rows = Vec::with_capacity(alloc, points.len() as usize)?;
+        for k in 0..points.len() {
+            rows.push(row_of(points.point(k), divisor))?;
+        }
+        Ok(PointTable { rows, divisor })
+    }
+
+    /// What a unit of the mass of a point costs, and 0 where there is no such point.
+    pub fn cost(&self, k: u32) -> i128 {
+        match self.rows.get(k as usize) {
+            Some(row) => i128::from(row.cost),
+            None => 0,
+        }
+    }
+
+    /// A cost in units.
+    pub fn units(&self, cost: i64) -> i128 {
+        ratio(i128::from(cost).saturating_mul(self.divisor), UNIT_COST)
+    }
+
+    /// The first point that lies the most below a plane, where one lies below it by a unit or more.
+    pub fn lowest(&self, plane: &[i64]) -> Option<u32> {
+        let mut least = self.step();
+        let mut found = None;
+        for (k, row) in self.rows.iter().enumerate() {
+            let above = row.above(plane);
+            if above < least {
+                least = above;
+                found = u32::try_from(k).ok();
+            }
+        }
+        found
+    }
+
+    /// A point has to lie above a plane by less than this negative number, to lie below it by a unit.
+    fn step(&self) -> i64 {
+        let unit = word(ratio(UNIT_COST, self.divisor).max(1));
+        0i64.wrapping_sub(unit)
+    }
+}
+
+impl Row {
+    /// How much a point lies above a plane; a negative number where it lies below.
+    fn above(&self, plane: &[i64]) -> i64 {
+        let mut sum: i64 = 0;
+        for (part, height) in self.parts.iter().zip(plane) {
+            sum = sum.wrapping_add(part.wrapping_mul(*height));
+        }
+        self.cost.wrapping_sub(sum >> PART_BITS)
+    }
+}
+
+/// The greatest magnitude of what a unit of mass costs, times 256.
+fn greatest_cost(points: &PointSet) -> i128 {
+    let mut most: i128 = 0;
+    for k in 0..points.len() {
+        let cost = cost_of(points.point(k));
+        most = most.max(cost).max(0i128.saturating_sub(cost));
+    }
+    most
+}
+
+/// What a unit of the mass of a point costs, times 256.
+fn cost_of(point: &Point) -> i128 {
+    ratio(
+        point.value.saturating_mul(UNIT_COST),
+        point.belief.total(),
+    )
+}
+
+/// The row of a point, with costs divided by a divisor.
+fn row_of(point: &Point, divisor: i128) -> Row {
+    let mut parts = [0; MOST_STATES];
+    for (part, weight) in parts.iter_mut().zip(point.belief.parts()) {
+        *part = word(normal_part(*weight, point.belief.total()) >> LESS_BITS);
+    }
+    Row {
+        parts,
+        cost: word(ratio(cost_of(point), divisor)),
+    }
+}
