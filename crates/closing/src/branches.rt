@@ -5,8 +5,13 @@ ghost use Rattle.closing.specs.Seen.{IsSeen};
 ghost use Rattle.game_model.specs.Game.{IsMass};
 ghost use Rattle.stage_game.specs.Asked.{BeliefFits};
 ghost use Rattle.stage_game.specs.Fits.{MixesFit};
-ghost use Rattle.std.specs.Prelude.{length, ◌<◌, ◌≡◌};
+ghost use Rattle.std.specs.Prelude.{length, ◌<◌, ◌≡◌, ◌≤◌};
 
+use crate::fineness::Fineness;
+use crate::hulls::Hull;
+use crate::places::pair_place;
+use crate::sharing::share;
+use crate::sums::product;
 use crate::visits::Seen;
 use alpha_set::NodeSet;
 use belief::{Belief, Mixes, mass, reduce};
@@ -33,6 +38,8 @@ pub struct Open {
 pub struct Frontier {
     pub open: Vec<Open>,
     pub visited: Vec<Belief>,
+    /// How finely beliefs are told apart.
+    fineness: Fineness,
 }
 
 impl Frontier {
@@ -41,7 +48,7 @@ impl Frontier {
     /// # Errors
     ///
     /// Where no memory is to be had.
-    pub fn of(alloc: Global, game: &Game) -> Result<Frontier, AllocError> {
+    pub fn of(alloc: Global, game: &Game, fineness: Fineness) -> Result<Frontier, AllocError> {
         let first = Open {
             belief: Belief::first_of(game),
             share: WHOLE,
@@ -50,6 +57,7 @@ impl Frontier {
         Ok(Frontier {
             open: vec![in alloc; first]?,
             visited: Vec::new(alloc),
+            fineness,
         })
     }
 
@@ -71,6 +79,18 @@ impl Frontier {
     /// Whether a belief was visited.
     fn has_visited(&self, belief: &Belief) -> bool {
         self.visited.iter().any(|visited| visited.same(belief))
+    }
+
+    /// Adds a belief, where there is one, with its share and its gap.
+    ///
+    /// # Errors
+    ///
+    /// Where no memory is to be had.
+    fn add_some(&mut self, belief: Option<Belief>, share: i128, gap: i128) -> Result<(), AllocError> {
+        match belief {
+            Some(belief) => self.add(Open { belief, share, gap }),
+            None => Ok(()),
+        }
     }
 
     /// Adds an open belief: one that was visited is left out, and to one that is open its share and its gap are added.
@@ -101,6 +121,7 @@ impl Frontier {
     /// Where no memory is to be had.
     pub fn add_branches(
         &mut self,
+        alloc: Global,
         game: &Game,
         from: &Open,
         seen: &Seen,
@@ -113,10 +134,11 @@ impl Frontier {
         requires points { ArePoints game.now points.now.members }
     {
         law_game(game);
+        let mut hull = Hull::of(alloc, game, points)?;
         for a in 0..game.own_actions() {
             let own = seen.own[a as usize];
             if own > 0 {
-                self.add_after(game, from, seen, own, a, nodes, points)?;
+                self.add_after(game, from, seen, own, a, nodes, points, &mut hull)?;
             }
         }
         Ok(())
@@ -132,6 +154,7 @@ impl Frontier {
         a: u32,
         nodes: &NodeSet,
         points: &PointSet,
+        hull: &mut Hull,
     ) -> Result<(), AllocError>
         requires own { a < game.now.shape.own_actions }
         requires belief { BeliefFits game.now from.now.belief }
@@ -144,12 +167,12 @@ impl Frontier {
         let weights = &mut weights[..game.states() as usize];
         for o in 0..game.observations() {
             write_mass(game, &from.belief, &seen.informed, a, o, weights);
-            if let Some(belief) = reduce(weights) {
-                let share = share_of(game, from, own, weights);
-                let gap = gap_of(game, nodes, points, weights, share);
-                if gap > 0 {
-                    self.add(Open { belief, share, gap })?;
-                }
+            let share = share_of(game, from, own, weights);
+            let heights = hull.divide(game, points, pair_place(game, a, o), weights);
+            let gap = gap_of(game, nodes, weights, &heights, share);
+            if gap > 0 {
+                let belief = stand_in(game, points, hull, weights, &self.fineness);
+                self.add_some(belief, share, gap)?;
             }
         }
         Ok(())
@@ -191,15 +214,58 @@ fn quotient(over: i128, under: i128) -> i128 {
     if under > 0 { over / under } else { 0 }
 }
 
-/// What the bounds are apart at a mass in units, times a share.
-fn gap_of(game: &Game, nodes: &NodeSet, points: &PointSet, mass: &[i128], share: i128) -> i128
+/// What the bounds are apart at a mass in units, times a share, where next states are worth these heights above.
+fn gap_of(
+    game: &Game,
+    nodes: &NodeSet,
+    mass: &[i128],
+    heights: &[i128; MOST_STATES],
+    share: i128,
+) -> i128
     requires nodes { AreNodes game.now nodes.now.members }
-    requires points { ArePoints game.now points.now.members }
     requires mass { IsMass game.now mass.now }
 {
     law_game(game);
-    let high = points.sawtooth(mass);
     let (low, _) = nodes.worth(mass);
-    let rate = quotient(high.saturating_sub(low), sum(mass));
-    share.saturating_mul(rate)
+    let apart = product(mass, heights).saturating_sub(low);
+    share.saturating_mul(quotient(apart, sum(mass)))
+}
+
+/// The belief that is visited in the place of a mass: that of the nearest point, where one is near; else its own, where
+/// the total of that is small; else one on a grid.
+fn stand_in(
+    game: &Game,
+    points: &PointSet,
+    hull: &Hull,
+    mass: &[i128],
+    fineness: &Fineness,
+) -> Option<Belief>
+    requires mass { IsMass game.now mass.now }
+{
+    law_game(game);
+    if let Some(k) = hull.nearest(mass, fineness.near) {
+        if k < points.len() {
+            return Some(points.point(k).belief.copied());
+        }
+    }
+    let belief = reduce(mass)?;
+    if belief.total() <= fineness.grid {
+        Some(belief)
+    } else {
+        on_grid(mass, fineness.grid)
+    }
+}
+
+/// The belief of a total of at most 65,536 that a mass is rounded to.
+fn on_grid(mass: &[i128], grid: i128) -> Option<Belief>
+    requires some { 1 ≤ length mass.now }
+    requires few { length mass.now ≤ 16 }
+{
+    let mut weights = [0; MOST_STATES];
+    let weights = &mut weights[..mass.len()];
+    weights.copy_from_slice(mass);
+    let mut shares = [0; MOST_STATES];
+    let shares = &mut shares[..mass.len()];
+    share(weights, grid.clamp(0, MIX_TOTAL), shares);
+    reduce(shares)
 }

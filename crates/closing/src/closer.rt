@@ -8,6 +8,7 @@ ghost use Rattle.std.specs.Bool.{IsTrue};
 ghost use Rattle.std.specs.Prelude.{IfOk, ◌↔◌, ◌≡◌, ◌≤◌};
 
 use crate::export::exported;
+use crate::fineness::Fineness;
 use crate::rounds::round;
 use crate::signs::Signs;
 use controller::{Certificate, Outcome};
@@ -67,8 +68,9 @@ fn with_gap(game: &Game, certificate: Certificate, gap: &Fraction) -> Certificat
     given.concluded(game)
 }
 
-/// What rounds make of a certificate; it ends at the first round whose bounds are within the gap, or that changes the
-/// entries of no node and the value of no point.
+/// What rounds make of a certificate, each telling beliefs apart more finely; it ends at the first round whose bounds are
+/// within the gap, or that tells beliefs apart as finely as can be and changes the entries of no node and the value of no
+/// point.
 ///
 /// # Errors
 ///
@@ -84,17 +86,20 @@ fn improved(
     ensures { IfOk result (IsBetter game.now certificate) }
 {
     let mut best = certificate;
+    let mut fineness = Fineness::coarse();
     for _ in 0..rounds {
         let before = Signs::of(&best);
-        best = round(alloc, game, best)?;
-        if is_done(&best, &before) {
+        best = round(alloc, game, best, &fineness)?;
+        let changed = Signs::of(&best) != before;
+        if is_done(&best, &fineness, changed) {
             return Ok(best);
         }
+        fineness = fineness.finer(changed);
     }
     Ok(best)
 }
 
-/// Whether no further round is needed, after one that began with members of these signs.
-fn is_done(certificate: &Certificate, before: &Signs) -> bool {
-    is_closed(certificate) || Signs::of(certificate) == *before
+/// Whether no further round is needed, after one that told beliefs apart so finely and changed a member or none.
+fn is_done(certificate: &Certificate, fineness: &Fineness, changed: bool) -> bool {
+    is_closed(certificate) || (!changed && fineness.is_finest())
 }

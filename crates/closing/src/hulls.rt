@@ -5,6 +5,7 @@ ghost use Rattle.std.specs.Prelude.{IfSome, length, ◌<◌, ◌≡◌, ◌≤�
 
 use crate::fixed::{BITS, ONE, fixed_less, fixed_product, fixed_sum, inverse_of, normal_part};
 use crate::places::{PAIRS, add_at};
+use crate::sums::total_of;
 use crate::tables::PointTable;
 use game_model::{Game, MOST_STATES, law_game};
 use point_set::{Point, PointSet};
@@ -79,6 +80,11 @@ impl Hull {
             }
         }
         heights
+    }
+
+    /// The first point that is nearest to a mass, where the parts of both, of 2^26 in all, differ by less than this.
+    pub fn nearest(&self, mass: &[i128], near: i64) -> Option<u32> {
+        self.table.nearest(mass, near)
     }
 
     /// Adds to the weight of each point what the mass divided last after the pair of a place gives to it.
@@ -276,13 +282,4 @@ fn normal_of(mass: &[i128]) -> Column {
         *part = normal_part(*weight, total);
     }
     normal
-}
-
-/// The total of a mass.
-fn total_of(mass: &[i128]) -> i128 {
-    let mut sum: i128 = 0;
-    for weight in mass {
-        sum = sum.saturating_add(*weight);
-    }
-    sum
 }

@@ -4,6 +4,7 @@
 mod branches;
 mod closer;
 mod export;
+mod fineness;
 mod fixed;
 mod gains;
 mod going;

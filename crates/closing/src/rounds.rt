@@ -8,6 +8,7 @@ ghost use Rattle.std.specs.Bool.{IsTrue};
 ghost use Rattle.std.specs.Prelude.{IfOk, ◌<◌};
 
 use crate::branches::{Frontier, Open};
+use crate::fineness::Fineness;
 use crate::restarts::restarted;
 use crate::sweeps::{sweep_nodes, sweep_points};
 use crate::visits::{visit, visit_points};
@@ -21,8 +22,8 @@ use std::alloc::{AllocError, Global};
 /// How many beliefs a round visits at most on its way from the first one.
 const BUDGET: u32 = 64;
 
-/// What one round makes of a certificate: it visits the beliefs from the first one on, those first on which most of the
-/// gap hangs, then the corners, then the visited beliefs once more for points, from the last to the first; then all
+/// What one round makes of a certificate: it visits the beliefs from the first one on, told apart so finely, those first
+/// on which most of the gap hangs, then the corners, then the visited beliefs once more for points, from the last to the first; then all
 /// members are swept, and in the end the starts move to better members.
 ///
 /// # Errors
@@ -32,11 +33,12 @@ pub fn round(
     alloc: Global,
     game: &Game,
     certificate: Certificate,
+    fineness: &Fineness,
 ) -> Result<Certificate, AllocError>
     requires { CertificateStands game.now certificate }
     ensures { IfOk result (IsBetter game.now certificate) }
 {
-    let next = with_better_members(alloc, game, certificate)?;
+    let next = with_better_members(alloc, game, certificate, fineness)?;
     restarted(alloc, game, next)
 }
 
@@ -45,13 +47,14 @@ fn with_better_members(
     alloc: Global,
     game: &Game,
     certificate: Certificate,
+    fineness: &Fineness,
 ) -> Result<Certificate, AllocError>
     requires { CertificateStands game.now certificate }
     ensures { IfOk result (IsBetter game.now certificate) }
 {
     law_game(game);
     let mut next = certificate;
-    visit_all(alloc, game, &mut next.nodes, &mut next.points)?;
+    visit_all(alloc, game, fineness, &mut next.nodes, &mut next.points)?;
     sweep_nodes(game, &mut next.nodes);
     sweep_points(game, &mut next.points);
     Ok(next.concluded(game))
@@ -61,6 +64,7 @@ fn with_better_members(
 fn visit_all(
     alloc: Global,
     game: &Game,
+    fineness: &Fineness,
     nodes: &mut NodeSet,
     points: &mut PointSet,
 ) -> Result<(), AllocError>
@@ -70,7 +74,7 @@ fn visit_all(
     ensures points { PointsGoOn game.now points.old.members points.new.members }
 {
     law_game(game);
-    let mut frontier = Frontier::of(alloc, game)?;
+    let mut frontier = Frontier::of(alloc, game, *fineness)?;
     explore(alloc, game, &mut frontier, nodes, points)?;
     for s in 0..game.states() {
         visit_corner(alloc, game, s, nodes, points)?;
@@ -141,7 +145,7 @@ fn visit_open(
         return Ok(());
     }
     let seen = visit(alloc, game, &open.belief, nodes, points)?;
-    frontier.add_branches(game, &open, &seen, nodes, points)?;
+    frontier.add_branches(alloc, game, &open, &seen, nodes, points)?;
     frontier.visited.reserve(1)?;
     frontier.visited.push_reserved(open.belief);
     Ok(())

@@ -15,3 +15,12 @@ pub fn product(first: &[i128], second: &[i128]) -> i128 {
     }
     sum
 }
+
+/// The total of a mass, which stays at the end of its range rather than pass it.
+pub fn total_of(mass: &[i128]) -> i128 {
+    let mut sum: i128 = 0;
+    for weight in mass {
+        sum = sum.saturating_add(*weight);
+    }
+    sum
+}

@@ -1,7 +1,7 @@
 //! Points as a linear program sees them: each belief as parts of one total, and what a unit of its mass costs.
 
 use crate::fixed::{normal_part, word};
-use crate::sums::ratio;
+use crate::sums::{ratio, total_of};
 use game_model::MOST_STATES;
 use point_set::{Point, PointSet};
 use std::alloc::{AllocError, Global};
@@ -77,6 +77,21 @@ impl PointTable {
         found
     }
 
+    /// The first point that is nearest to a mass, where the parts of both, of 2^26 in all, differ by less than this.
+    pub fn nearest(&self, mass: &[i128], near: i64) -> Option<u32> {
+        let parts = parts_of(mass, total_of(mass));
+        let mut least = near;
+        let mut found = None;
+        for (k, row) in self.rows.iter().enumerate() {
+            let distance = row.distance(&parts);
+            if distance < least {
+                least = distance;
+                found = u32::try_from(k).ok();
+            }
+        }
+        found
+    }
+
     /// A point has to lie above a plane by less than this negative number, to lie below it by a unit.
     fn step(&self) -> i64 {
         let unit = word(ratio(UNIT_COST, self.divisor).max(1));
@@ -92,6 +107,16 @@ impl Row {
             sum = sum.wrapping_add(part.wrapping_mul(*height));
         }
         self.cost.wrapping_sub(sum >> PART_BITS)
+    }
+
+    /// How much the parts differ from others in all.
+    fn distance(&self, parts: &[i64; MOST_STATES]) -> i64 {
+        let mut sum: i64 = 0;
+        for (part, other) in self.parts.iter().zip(parts) {
+            let more = part.wrapping_sub(*other);
+            sum = sum.wrapping_add(more.max(0i64.wrapping_sub(more)));
+        }
+        sum
     }
 }
 
@@ -115,12 +140,17 @@ fn cost_of(point: &Point) -> i128 {
 
 /// The row of a point, with costs divided by a divisor.
 fn row_of(point: &Point, divisor: i128) -> Row {
-    let mut parts = [0; MOST_STATES];
-    for (part, weight) in parts.iter_mut().zip(point.belief.parts()) {
-        *part = word(normal_part(*weight, point.belief.total()) >> LESS_BITS);
-    }
     Row {
-        parts,
+        parts: parts_of(point.belief.parts(), point.belief.total()),
         cost: word(ratio(cost_of(point), divisor)),
     }
+}
+
+/// Weights of this total as parts of 2^26.
+fn parts_of(weights: &[i128], total: i128) -> [i64; MOST_STATES] {
+    let mut parts = [0; MOST_STATES];
+    for (part, weight) in parts.iter_mut().zip(weights) {
+        *part = word(normal_part(*weight, total) >> LESS_BITS);
+    }
+    parts
 }

@@ -1,8 +1,5 @@
-use Rattle.closing.proofs.Kept.{nodes-asked, points-asked}
+use Rattle.closing.proofs.Kept.{nodes-asked}
 use Rattle.closing.proofs.branches.gap_of.Goals as goal
-
-pub sawtooth-high-requires : goal.sawtooth-high-requires
-sawtooth-high-requires c = points-asked c.args.game.now c.args.points.now.members c.args.mass.now c.law_game.ensures.accepted c.requires.points c.requires.mass
 
 pub worth-low-requires-clause-weighed : goal.worth-low-requires-clause-weighed
 worth-low-requires-clause-weighed c = nodes-asked c.args.game.now c.args.nodes.now.members c.args.mass.now c.law_game.ensures.accepted c.requires.nodes c.requires.mass

@@ -1,0 +1,51 @@
+//! How finely rounds tell beliefs apart: coarsely at first, so that one visit serves many masses, and ever more finely.
+
+use game_model::MIX_TOTAL;
+
+/// The total of the first grid.
+const FIRST_GRID: i128 = 1_024;
+
+/// The first distance within which beliefs are near: an eighth, where all parts together are 2^26.
+const FIRST_NEAR: i64 = 1 << 23;
+
+/// Where the distance is below this, rounds do not become finer by it.
+const LEAST_NEAR: i64 = 1 << 10;
+
+/// How finely a round tells beliefs apart.
+#[derive(Clone, Copy)]
+pub struct Fineness {
+    /// The total that beliefs are rounded to, where theirs is greater.
+    pub grid: i128,
+    /// A belief whose parts differ from those of a point's by less than this in all is taken for the point's.
+    pub near: i64,
+}
+
+impl Fineness {
+    /// That of the first round.
+    pub fn coarse() -> Fineness {
+        Fineness {
+            grid: FIRST_GRID,
+            near: FIRST_NEAR,
+        }
+    }
+
+    /// Whether no later round tells beliefs apart more finely by much.
+    pub fn is_finest(&self) -> bool {
+        self.grid >= MIX_TOTAL && self.near < LEAST_NEAR
+    }
+
+    /// That of the round after one that changed a member, or changed none.
+    pub fn finer(&self, changed: bool) -> Fineness {
+        if changed {
+            Fineness {
+                grid: self.grid,
+                near: self.near - self.near / 4,
+            }
+        } else {
+            Fineness {
+                grid: self.grid.saturating_mul(2).min(MIX_TOTAL),
+                near: self.near / 4,
+            }
+        }
+    }
+}
