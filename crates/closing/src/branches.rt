@@ -87,7 +87,12 @@ impl Frontier {
     /// # Errors
     ///
     /// Where no memory is to be had.
-    fn add_some(&mut self, belief: Option<Belief>, share: i128, gap: i128) -> Result<(), AllocError> {
+    fn add_some(
+        &mut self,
+        belief: Option<Belief>,
+        share: i128,
+        gap: i128,
+    ) -> Result<(), AllocError> {
         match belief {
             Some(belief) => self.add(Open { belief, share, gap }),
             None => Ok(()),

@@ -3,7 +3,7 @@
 ghost use Rattle.closing.specs.Better.{AreNodes};
 ghost use Rattle.game_model.specs.Game.{IsMass};
 ghost use Rattle.stage_game.specs.Asked.{PointsServe};
-ghost use Rattle.std.specs.Prelude.{length, ◌<◌, ◌≡◌, ◌≤◌};
+ghost use Rattle.std.specs.Prelude.{length, ◌<◌, ◌≡◌};
 
 use crate::sharing::share;
 use crate::sums::ratio;
@@ -61,7 +61,10 @@ pub fn push_out(
             return pushed;
         };
         left = left.saturating_sub(corner.loss);
-        weight = scaled(weight, MIX_TOTAL.saturating_sub(part_at(parts, corner.state)));
+        weight = scaled(
+            weight,
+            MIX_TOTAL.saturating_sub(part_at(parts, corner.state)),
+        );
         take_off(game, corner.state, parts);
         pushed = true;
     }
@@ -99,13 +102,7 @@ fn greatest_corner(
 }
 
 /// What a belief is worth where a corner of it is worth its point's value, and the rest what the nodes are worth.
-fn mean_without(
-    game: &Game,
-    nodes: &NodeSet,
-    points: &PointSet,
-    state: u32,
-    parts: &[i128],
-) -> i128
+fn mean_without(game: &Game, nodes: &NodeSet, points: &PointSet, state: u32, parts: &[i128]) -> i128
     requires nodes { AreNodes game.now nodes.now.members }
     requires points { PointsServe game.now points.now.members }
     requires parts { IsMass game.now parts.now }
