@@ -3,13 +3,14 @@
 ghost use Rattle.closing.specs.Better.{AreNodes, ArePoints};
 ghost use Rattle.closing.specs.Seen.{IsSeen};
 ghost use Rattle.game_model.specs.Game.{IsMass};
-ghost use Rattle.stage_game.specs.Asked.{BeliefFits};
+ghost use Rattle.stage_game.specs.Asked.{BeliefFits, PointsServe};
 ghost use Rattle.stage_game.specs.Fits.{MixesFit};
 ghost use Rattle.std.specs.Prelude.{length, ◌<◌, ◌≡◌, ◌≤◌};
 
 use crate::fineness::Fineness;
 use crate::hulls::Hull;
 use crate::places::pair_place;
+use crate::pushing::{push_out, write_parts};
 use crate::sharing::share;
 use crate::sums::product;
 use crate::visits::Seen;
@@ -86,7 +87,12 @@ impl Frontier {
     /// # Errors
     ///
     /// Where no memory is to be had.
-    fn add_some(&mut self, belief: Option<Belief>, share: i128, gap: i128) -> Result<(), AllocError> {
+    fn add_some(
+        &mut self,
+        belief: Option<Belief>,
+        share: i128,
+        gap: i128,
+    ) -> Result<(), AllocError> {
         match belief {
             Some(belief) => self.add(Open { belief, share, gap }),
             None => Ok(()),
@@ -169,9 +175,10 @@ impl Frontier {
             write_mass(game, &from.belief, &seen.informed, a, o, weights);
             let share = share_of(game, from, own, weights);
             let heights = hull.divide(game, points, pair_place(game, a, o), weights);
-            let gap = gap_of(game, nodes, weights, &heights, share);
+            let rate = apart(game, nodes, weights, &heights);
+            let gap = share.saturating_mul(rate);
             if gap > 0 {
-                let belief = stand_in(game, points, hull, weights, &self.fineness);
+                let belief = stand_in(game, nodes, points, hull, weights, rate, &self.fineness);
                 self.add_some(belief, share, gap)?;
             }
         }
@@ -214,26 +221,46 @@ fn quotient(over: i128, under: i128) -> i128 {
     if under > 0 { over / under } else { 0 }
 }
 
-/// What the bounds are apart at a mass in units, times a share, where next states are worth these heights above.
-fn gap_of(
-    game: &Game,
-    nodes: &NodeSet,
-    mass: &[i128],
-    heights: &[i128; MOST_STATES],
-    share: i128,
-) -> i128
+/// What the bounds are apart at a mass in units, where next states are worth these heights above.
+fn apart(game: &Game, nodes: &NodeSet, mass: &[i128], heights: &[i128; MOST_STATES]) -> i128
     requires nodes { AreNodes game.now nodes.now.members }
     requires mass { IsMass game.now mass.now }
 {
     law_game(game);
     let (low, _) = nodes.worth(mass);
-    let apart = product(mass, heights).saturating_sub(low);
-    share.saturating_mul(quotient(apart, sum(mass)))
+    quotient(product(mass, heights).saturating_sub(low), sum(mass))
 }
 
-/// The belief that is visited in the place of a mass: that of the nearest point, where one is near; else its own, where
-/// the total of that is small; else one on a grid.
+/// The belief that is visited in the place of a mass whose bounds are apart so much: the mass, pushed out where that
+/// loses little, is brought to a belief.
 fn stand_in(
+    game: &Game,
+    nodes: &NodeSet,
+    points: &PointSet,
+    hull: &Hull,
+    mass: &[i128],
+    apart: i128,
+    fineness: &Fineness,
+) -> Option<Belief>
+    requires nodes { AreNodes game.now nodes.now.members }
+    requires points { PointsServe game.now points.now.members }
+    requires mass { IsMass game.now mass.now }
+{
+    law_game(game);
+    let mut places = [0; MOST_STATES];
+    let parts = &mut places[..mass.len()];
+    write_parts(game, mass, parts);
+    let budget = quotient(apart.saturating_mul(fineness.loss), 256);
+    if push_out(game, nodes, points, budget, parts) {
+        brought(game, points, hull, parts, fineness)
+    } else {
+        brought(game, points, hull, mass, fineness)
+    }
+}
+
+/// The belief that a mass is brought to: that of the nearest point, where one is near; else its own, where the total of
+/// that is small; else one on a grid.
+fn brought(
     game: &Game,
     points: &PointSet,
     hull: &Hull,

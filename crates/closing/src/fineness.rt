@@ -11,6 +11,9 @@ const FIRST_NEAR: i64 = 1 << 23;
 /// Where the distance is below this, rounds do not become finer by it.
 const LEAST_NEAR: i64 = 1 << 10;
 
+/// What of a mass's gap may be lost at first where corners are taken off it: a quarter, of 256.
+const FIRST_LOSS: i128 = 64;
+
 /// How finely a round tells beliefs apart.
 #[derive(Clone, Copy)]
 pub struct Fineness {
@@ -18,6 +21,8 @@ pub struct Fineness {
     pub grid: i128,
     /// A belief whose parts differ from those of a point's by less than this in all is taken for the point's.
     pub near: i64,
+    /// What of a mass's gap may be lost where corners are taken off it, of 256.
+    pub loss: i128,
 }
 
 impl Fineness {
@@ -26,12 +31,13 @@ impl Fineness {
         Fineness {
             grid: FIRST_GRID,
             near: FIRST_NEAR,
+            loss: FIRST_LOSS,
         }
     }
 
     /// Whether no later round tells beliefs apart more finely by much.
     pub fn is_finest(&self) -> bool {
-        self.grid >= MIX_TOTAL && self.near < LEAST_NEAR
+        self.grid >= MIX_TOTAL && self.near < LEAST_NEAR && self.loss == 0
     }
 
     /// That of the round after one that changed a member, or changed none.
@@ -40,11 +46,13 @@ impl Fineness {
             Fineness {
                 grid: self.grid,
                 near: self.near - self.near / 4,
+                loss: self.loss,
             }
         } else {
             Fineness {
                 grid: self.grid.saturating_mul(2).min(MIX_TOTAL),
                 near: self.near / 4,
+                loss: self.loss / 2,
             }
         }
     }

@@ -2,7 +2,7 @@
 
 ghost use Rattle.stage_game.specs.Asked.{BeliefFits};
 ghost use Rattle.stage_game.specs.Fits.{MixesFit};
-ghost use Rattle.std.specs.Prelude.{length, ◌<◌, ◌≤◌};
+ghost use Rattle.std.specs.Prelude.{◌<◌};
 
 use crate::going::Going;
 use crate::places::{OWN_PLACES, Weights};

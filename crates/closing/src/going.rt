@@ -1,13 +1,12 @@
 //! What going on is worth after each own action and observation, under mixes of the informed player.
 
 ghost use Rattle.stage_game.specs.Asked.{BeliefFits, NodesServe, PointsServe};
-ghost use Rattle.point_set.specs.Sawtooth.{AreMeasured};
 ghost use Rattle.stage_game.specs.Fits.{MixesFit};
 ghost use Rattle.std.specs.Prelude.{length, ◌<◌, ◌≡◌, ◌≤◌};
 
 use crate::hulls::Hull;
 use crate::places::{ENDS, PAIRS, end_place, pair_place};
-use crate::sums::{product, ratio};
+use crate::sums::product;
 use alpha_set::NodeSet;
 use belief::{Belief, Mixes, mass};
 use game_model::{Game, MOST_STATES, law_game};

@@ -10,7 +10,7 @@ ghost use Rattle.point_set.specs.Members.{most_points, point_data};
 ghost use Rattle.point_set.specs.Points.{PointData, PointFits, PointStands, point_of, points_of};
 ghost use Rattle.stage_game.specs.Asked.{BeliefFits};
 ghost use Rattle.std.specs.Bool.{IsTrue};
-ghost use Rattle.std.specs.Prelude.{IfSome, List, OnOk, length, slice_index_or, ◌++◌, ◌<◌, ◌≡◌, ◌≤◌};
+ghost use Rattle.std.specs.Prelude.{IfSome, List, length, slice_index_or, ◌++◌, ◌<◌, ◌≡◌, ◌≤◌};
 
 use alpha_set::{MOST_NODES, Node, NodeSet};
 use belief::Belief;

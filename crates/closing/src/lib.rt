@@ -13,6 +13,7 @@ mod keeps;
 mod master;
 mod matching;
 mod places;
+mod pushing;
 mod restarts;
 mod rounds;
 mod sharing;

@@ -8,11 +8,11 @@ ghost use Rattle.point_set.specs.Points.{PointData, PointFits, PointStands, poin
 ghost use Rattle.stage_game.specs.Asked.{BeliefFits, NodesServe, PointsServe};
 ghost use Rattle.stage_game.specs.Data.{lower_data, upper_data};
 ghost use Rattle.stage_game.specs.Fits.{LowerFits, MixesFit, UpperFits};
-ghost use Rattle.std.specs.Prelude.{IfOk, List, length, ◌++◌, ◌<◌, ◌≡◌, ◌≤◌};
+ghost use Rattle.std.specs.Prelude.{IfOk, List, length, ◌++◌, ◌≡◌};
 
+use crate::gains::weights_of;
 use crate::going::{going_by_nodes, going_by_points};
 use crate::hulls::Hull;
-use crate::gains::weights_of;
 use crate::places::OWN_PLACES;
 use crate::sharing::{informed_mixes, own_mix};
 use crate::stages::{ROUNDS, Stage, StateWeights};

@@ -5,7 +5,7 @@ ghost use Rattle.game_model.specs.Game.{IsWithin};
 ghost use Rattle.scaled_num.specs.Sums.{sum_of};
 ghost use Rattle.stage_game.specs.Fits.{MixesFit};
 ghost use Rattle.std.specs.List.{All};
-ghost use Rattle.std.specs.Prelude.{IfOk, length, pos, ◌<◌, ◌^◌, ◌≡◌, ◌≤ℤ◌, ◌≤◌};
+ghost use Rattle.std.specs.Prelude.{IfOk, length, pos, ◌^◌, ◌≡◌, ◌≤ℤ◌, ◌≤◌};
 
 use crate::places::Weights;
 use belief::Mixes;

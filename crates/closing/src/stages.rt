@@ -3,7 +3,7 @@
 
 ghost use Rattle.stage_game.specs.Asked.{BeliefFits};
 ghost use Rattle.stage_game.specs.Fits.{MixesFit};
-ghost use Rattle.std.specs.Prelude.{length, ◌<◌, ◌≡◌, ◌≤◌};
+ghost use Rattle.std.specs.Prelude.{length, ◌<◌, ◌≡◌};
 
 use crate::fixed::{ONE, normal_part};
 use crate::gains::{cost_in, own_gains};
@@ -151,13 +151,7 @@ impl Stage {
     }
 
     /// Adds the plan of each own action that gains more than what is known, and answers whether one helps.
-    fn add_better(
-        &mut self,
-        game: &Game,
-        going: &Going,
-        gains: &Weights,
-        known: i128,
-    ) -> bool {
+    fn add_better(&mut self, game: &Game, going: &Going, gains: &Weights, known: i128) -> bool {
         law_game(game);
         let mut added = false;
         for a in 0..game.own_actions() {
@@ -200,15 +194,7 @@ impl Stage {
     }
 
     /// Writes what the plan of an own action costs in the rows of a state.
-    fn write_costs(
-        &self,
-        game: &Game,
-        going: &Going,
-        s: u32,
-        a: u32,
-        row: u32,
-        costs: &mut Costs,
-    )
+    fn write_costs(&self, game: &Game, going: &Going, s: u32, a: u32, row: u32, costs: &mut Costs)
         requires state { s < game.now.shape.states }
         requires own { a < game.now.shape.own_actions }
     {

@@ -5,7 +5,7 @@ ghost use Rattle.closing.specs.Plans.{AddsForEach, AddsSuch, AreForPairs, AreSte
 ghost use Rattle.game_model.specs.Branches.{branch_of};
 ghost use Rattle.scaled_num.specs.Share.{at};
 ghost use Rattle.stage_game.specs.AdviceData.{has_weight};
-ghost use Rattle.std.specs.Prelude.{IfOk, filter, length, map, slice_index, ◌++◌, ◌<◌, ◌≡◌, ◌≤◌};
+ghost use Rattle.std.specs.Prelude.{IfOk, filter, length, map, ◌++◌, ◌<◌, ◌≡◌, ◌≤◌};
 
 use crate::sharing::share;
 use crate::stages::Stage;
@@ -112,15 +112,7 @@ pub fn steps_of(
     let mut shares = vec![in alloc; 0; nodes as usize]?;
     let mut next = Vec::new(alloc);
     for a in 0..game.own_actions() {
-        push_steps_of(
-            game,
-            stage,
-            own,
-            a,
-            &mut weights,
-            &mut shares,
-            &mut next,
-        )?;
+        push_steps_of(game, stage, own, a, &mut weights, &mut shares, &mut next)?;
     }
     Ok(next)
 }

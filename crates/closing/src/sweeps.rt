@@ -1,7 +1,6 @@
 //! Sweeps: every member is brought to what one stage gives, over and over.
 
 ghost use Rattle.closing.specs.Better.{AreNodes, ArePoints, NodesGoOn, PointsGoOn};
-ghost use Rattle.std.specs.Prelude.{length, ◌≡◌};
 
 use alpha_set::NodeSet;
 use game_model::Game;

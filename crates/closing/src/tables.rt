@@ -132,10 +132,7 @@ fn greatest_cost(points: &PointSet) -> i128 {
 
 /// What a unit of the mass of a point costs, times 256.
 fn cost_of(point: &Point) -> i128 {
-    ratio(
-        point.value.saturating_mul(UNIT_COST),
-        point.belief.total(),
-    )
+    ratio(point.value.saturating_mul(UNIT_COST), point.belief.total())
 }
 
 /// The row of a point, with costs divided by a divisor.

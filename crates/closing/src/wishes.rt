@@ -210,7 +210,16 @@ pub fn wishes_of(
     let mut weights = vec![in alloc; 0; points.len() as usize]?;
     let mut wishes = Vec::new(alloc);
     for a in 0..game.own_actions() {
-        push_wishes_of(game, belief, mixes, points, hull, a, &mut weights, &mut wishes)?;
+        push_wishes_of(
+            game,
+            belief,
+            mixes,
+            points,
+            hull,
+            a,
+            &mut weights,
+            &mut wishes,
+        )?;
     }
     Ok(wishes)
 }

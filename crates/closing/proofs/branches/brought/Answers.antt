@@ -2,7 +2,7 @@ use Rattle.std.proofs.Common.{◌^◌, arith}
 use Rattle.std.specs.Prelude.{ℤ, pos, ◌*ℤ◌, ◌≤ℤ◌}
 use Rattle.std.proofs.lemmas.Int.{ints}
 use Rattle.scaled_num.specs.Sums.{sum_of}
-use Rattle.closing.proofs.branches.stand_in.Goals as goal
+use Rattle.closing.proofs.branches.brought.Goals as goal
 
 light : (x d : ℤ) → x ≤ℤ (pos (2 ^ 36) *ℤ d) → d ≤ℤ pos (2 ^ 30) → x ≤ℤ pos (2 ^ 100)
 light x d h l = omega (arith, ints)
