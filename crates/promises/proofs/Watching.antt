@@ -3,6 +3,7 @@
 use Rattle.std.proofs.Common.{◌≡◌, ℕ, suc, zero, ◌+◌, ◌*◌, ◌^◌, ◌<◌, ◌≤◌, List, [], ◌∷◌, ◌++◌, length, length-append, refl, ap, subst, arith, sym, ◌∙◌}
 use Rattle.std.specs.Prelude.{ℤ, pos, ◌+ℤ◌, ◌-ℤ◌, ◌*ℤ◌, ◌≤ℤ◌, sum_by, cond, ◌==◌, ◌&&◌}
 use Rattle.std.specs.List.{AllByRecursion}
+use borrow.Author.Differences.{up}
 use Rattle.std.proofs.Math.Nat.{pow-zero, pow-suc}
 use Rattle.std.proofs.lemmas.Int.{ints}
 use Rattle.scaled_num.specs.Sums.{below, total}
@@ -25,10 +26,10 @@ use Rattle.history_model.proofs.LowerHalves.{from-some, from-sum}
 use Rattle.history_model.proofs.Parts.{NodeGains}
 use Rattle.history_model.proofs.Standing.{nodes-gain}
 use Rattle.history_model.proofs.Weighted.{weighted-least, weighted-swap}
-use Rattle.promises.specs.Courses.{Stage, courses, earned, worth}
+use Rattle.promises.specs.Courses.{Stage, chance, courses, earned, worth}
 use Rattle.promises.specs.Machines.{node_weights, own_place}
 use Rattle.promises.specs.Promises.{drawn, first_whole, units}
-use Rattle.promises.specs.Watching.{EarnsWatched, EarnsWatchedAt, IsStage, watched_earned, watching_weights}
+use Rattle.promises.specs.Watching.{EarnsWatched, EarnsWatchedAt, IsStage, WatchedInTheMean, watched_earned, watching_weights}
 use Rattle.promises.proofs.Courses.{chance_after, stage_of}
 use Rattle.promises.proofs.Machines.{gathered, own_place-snoc}
 use Rattle.promises.proofs.Matching.{next_x, next_y, of_weights, weights-first}
@@ -349,3 +350,71 @@ earns-watched g k full stands n coins whole strategy is =
     with_tail x q t y z h =
         let same : (x *ℤ q -ℤ t) *ℤ y +ℤ t *ℤ y ≡ x *ℤ (q *ℤ y) = sym (add-mulℤ (x *ℤ q -ℤ t) t y) ∙ ap (λ (w : ℤ). w *ℤ y) (back (x *ℤ q) t) ∙ mulℤ_assoc x q y in
         omega (arith, sums, same)
+
+-- ---- the weights of all courses
+stage_sum-same : (g : Numbers) (U V s : ℕ) (X : ℕ → ℕ → ℕ → ℕ) (Y : ℕ → ℕ → ℕ) (f h : ℕ → ℕ → ℕ → ℕ → ℕ → ℕ → ℤ) →
+    ((a c o t u v : ℕ) → a < g.own_actions → c < g.informed_actions → o < g.observations → t < g.states → u < U → v < V → f a c o t u v ≡ h a c o t u v) →
+    stage_sum g U V s X Y f ≡ stage_sum g U V s X Y h
+stage_sum-same g U V s X Y f h same =
+    total-below g.own_actions _ _ (λ a la.
+    total-below g.informed_actions _ _ (λ c lc.
+    total-below g.observations _ _ (λ o lo.
+    total-below g.states _ _ (λ t lt.
+    ap (λ z. pos (g.weight s a c o t) *ℤ z) (total-below U _ _ (λ u lu.
+    ap (λ z. pos (X a o u) *ℤ z) (total-below V _ _ (λ v lv.
+    ap (λ z. pos (Y c v) *ℤ z) (same a c o t u v la lc lo lt lu lv)))))))))
+
+-- summed alone the weights are a power, whatever was before
+weights-whole : (g : Numbers) (m width count V N most start : ℕ) (nodes : ℕ → Node) (Y : List Stage → ℕ → ℕ → ℕ) → RowsAreFull g →
+    ((i : ℕ) → i < count → NodeKeeps g m width count (nodes i)) →
+    ((past : List Stage) → length past < most → AllByRecursion (IsStage g count V) past → sum_by (λ c. sum_by (Y past c) (below V)) (below g.informed_actions) ≡ N) →
+    (n : ℕ) (past : List Stage) (i s : ℕ) (x : ℤ) → own_place start past ≡ i → i < count → s < g.states → length past + n ≤ most → AllByRecursion (IsStage g count V) past →
+    of_weights g count V (node_weights nodes start) (λ past c a o t v. Y past c v) n past s x (pos 0) ≡ x *ℤ pos ((g.row_total * m * N) ^ n)
+weights-whole g m width count V N most start nodes Y full keeps right zero past i s x at li ls lp all = rw (pow-zero (g.row_total * m * N)) (alone x)
+  where
+    alone : (x : ℤ) → pos 1 *ℤ (x +ℤ pos 0 *ℤ pos 0) +ℤ pos 0 ≡ x *ℤ pos 1
+    alone x = rw (zero_times (pos 0), plus_zero x, one_times x, plus_zero x, times_one x) refl
+weights-whole g m width count V N most start nodes Y full keeps right (suc n) past i s x at li ls lp all =
+    let X = g.row_total * m * N in
+    let own = node_weights nodes start in
+    let informed = λ (past : List Stage) (c a o t v : ℕ). Y past c v in
+    let T = x *ℤ pos (X ^ n) in
+    weights-first g count V own informed n past s x (pos 0)
+    ∙ stage_sum-same g count V s (own past) (Y past)
+    (λ a c o t u v. of_weights g count V own informed n (past ++ stage_of a c o t u v ∷ []) t (next_x g n s a c x (pos 0)) (next_y g (pos 0)))
+    (λ a c o t u v. T +ℤ pos 0 *ℤ (nodes u).vector t)
+    (λ a c o t u v la lc lo lt lu lv.
+    ap (λ (y : ℤ). of_weights g count V own informed n (past ++ stage_of a c o t u v ∷ []) t y (next_y g (pos 0))) (stays x (g.reward s a c *ℤ pos (g.discount_under ^ suc n)))
+    ∙ ap (λ (y : ℤ). of_weights g count V own informed n (past ++ stage_of a c o t u v ∷ []) t x y) (zero_times (pos g.discount_over))
+    ∙ weights-whole g m width count V N most start nodes Y full keeps right n (past ++ stage_of a c o t u v ∷ []) u t x
+    (own_place-snoc start past (stage_of a c o t u v)) lu lt (longer past (stage_of a c o t u v) n most lp)
+    (each-append (IsStage g count V) past (stage_of a c o t u v ∷ []) all (record { own = la; informed = lc; seen = lo; to = lt; own_coin = lu; informed_coin = lv }, tt))
+    ∙ sym (stays T ((nodes u).vector t)))
+    ∙ stage-constant g m width count V N s i start nodes past (Y past) full ls at (keeps i li) (right past (shorter past n most lp) all) T
+    ∙ ends (pos X) x (pos (X ^ n))
+    ∙ ap (λ (k : ℕ). x *ℤ pos k) (sym (pow-suc X n))
+  where
+    stays : (x y : ℤ) → x +ℤ pos 0 *ℤ y ≡ x
+    stays x y = rw (zero_times y) (plus_zero x)
+
+    ends : (d x w : ℤ) → d *ℤ (x *ℤ w) ≡ x *ℤ (w *ℤ d)
+    ends d x w = simp products (omega (arith, sums))
+
+pub watched-mean : (g : GameData) (k : CertificateData) → RowsAreFull (numbers g) → CertificateStands g k → WatchedInTheMean g k
+watched-mean g k full stands n coins whole s i strategy ls li is =
+    let G = numbers g in
+    let own = node_weights (nodes_of k.nodes) i in
+    let informed = watching_weights strategy s i in
+    let all = courses G (length k.nodes) coins n in
+    ap up
+    (sym (total-pos (chance G n s own informed) all)
+    ∙ total-same _ _ all (each (λ course. alone (pos (chance_after G [] n s own informed course)) (worth G n s course)) all)
+    ∙ weights-whole G units (span g) (length k.nodes) coins whole n i (nodes_of k.nodes) (strategy s i) full (nodes-keep g k stands.fits)
+    (λ past short past_all. is.sums s i past ls li short past_all) n [] i s (pos 1) refl li ls (whole_length n) tt
+    ∙ one_times (pos ((G.row_total * units * whole) ^ n)))
+  where
+    whole_length : (n : ℕ) → 0 + n ≤ n
+    whole_length n = omega arith
+
+    alone : (w z : ℤ) → w ≡ w *ℤ (pos 1 +ℤ pos 0 *ℤ z)
+    alone w z = rw (zero_times z, plus_zero (pos 1), times_one w) refl

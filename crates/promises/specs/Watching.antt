@@ -7,7 +7,7 @@ use Rattle.alpha_set.specs.Nodes.{nodes_of}
 use Rattle.controller.specs.Certificates.{CertificateData}
 use Rattle.game_model.specs.Game.{GameData, first_at, numbers, span}
 use Rattle.game_model.specs.Numbers.{Numbers}
-use Rattle.promises.specs.Courses.{InformedWeights, Stage, earned}
+use Rattle.promises.specs.Courses.{InformedWeights, Stage, chance, courses, earned}
 use Rattle.promises.specs.Machines.{node_weights}
 use Rattle.promises.specs.Promises.{drawn, first_whole, start_whole, units}
 
@@ -52,3 +52,10 @@ EarnsWatchedAt g k =
     (((nodes_of k.nodes i).vector s *ℤ pos ((numbers g).discount_under ^ n) -ℤ pos ((numbers g).discount_over ^ n * span g))
     *ℤ pos (((numbers g).row_total * units * whole) ^ n))
     ≤ℤ (pos units *ℤ earned (numbers g) (length k.nodes) coins n s (node_weights (nodes_of k.nodes) i) (watching_weights strategy s i))
+
+-- What it earns is a mean here too: from each node the weights of all courses sum to the number that the bound is multiplied by.
+abbrev pub WatchedInTheMean : GameData → CertificateData → Type 0
+WatchedInTheMean g k =
+    (n coins whole s i : ℕ) (strategy : WatchingStrategy) → s < g.shape.states → i < length k.nodes → IsWatchingStrategy (numbers g) (length k.nodes) coins whole n strategy →
+    sum_by (chance (numbers g) n s (node_weights (nodes_of k.nodes) i) (watching_weights strategy s i)) (courses (numbers g) (length k.nodes) coins n)
+    ≡ ((numbers g).row_total * units * whole) ^ n

@@ -2,7 +2,7 @@
 #![tactic(auto)]
 
 ghost use Rattle.promises.specs.Promises.{ActionEarns, DrawsExactly, Earns, EarnsAt, EarnsInTheMean, HoldsDown, HoldsInTheMean, StartsAreDrawn};
-ghost use Rattle.promises.specs.Watching.{EarnsWatched, EarnsWatchedAt};
+ghost use Rattle.promises.specs.Watching.{EarnsWatched, EarnsWatchedAt, WatchedInTheMean};
 ghost use Rattle.controller.specs.Certificates.{CertificateStands};
 ghost use Rattle.cert_text.specs.Answers.{IsTextFor};
 ghost use Rattle.game_model.specs.Game.{first_at, numbers, span};
@@ -16,8 +16,9 @@ use history_model::{law_lower, law_upper};
 use std::alloc::Global;
 
 /// Whether a certificate stands. If it does, its controller earns at least the lower bound less the tail against every
-/// history-dependent strategy of the informed player, and its splitting strategy holds every history-dependent strategy
-/// of player one to at most the upper bound plus the tail.
+/// strategy of the informed player that depends on the history, also where it sees the controller's nodes; and its
+/// splitting strategy holds every strategy of player one that depends on the history to at most the upper bound plus
+/// the tail.
 pub fn earns(game: &Game, certificate: &Certificate) -> bool
     ensures stands { IsTrue result ↔ CertificateStands game.now certificate.now }
     ensures lower { IsTrue result → Earns game.now certificate.now }
@@ -25,6 +26,7 @@ pub fn earns(game: &Game, certificate: &Certificate) -> bool
     ensures lower_mean { IsTrue result → EarnsInTheMean game.now certificate.now }
     ensures watched { IsTrue result → EarnsWatched game.now certificate.now }
     ensures watched_at { IsTrue result → EarnsWatchedAt game.now certificate.now }
+    ensures watched_mean { IsTrue result → WatchedInTheMean game.now certificate.now }
     ensures upper { IsTrue result → HoldsDown game.now certificate.now }
     ensures upper_mean { IsTrue result → HoldsInTheMean game.now certificate.now }
     ensures draws { IsTrue result → DrawsExactly game.now certificate.now }
@@ -48,6 +50,7 @@ pub fn law_promises(game: &Game, certificate: &Certificate)
     ensures lower_mean { EarnsInTheMean game.now certificate.now }
     ensures watched { EarnsWatched game.now certificate.now }
     ensures watched_at { EarnsWatchedAt game.now certificate.now }
+    ensures watched_mean { WatchedInTheMean game.now certificate.now }
     ensures upper { HoldsDown game.now certificate.now }
     ensures upper_mean { HoldsInTheMean game.now certificate.now }
     ensures draws { DrawsExactly game.now certificate.now }
@@ -60,8 +63,8 @@ pub fn law_promises(game: &Game, certificate: &Certificate)
     law_upper(game, certificate);
 }
 
-/// What always playing one action earns at least, less the tail, against every history-dependent strategy of the
-/// informed player: a numerator over 65,536 times the total of the first belief.
+/// What always playing one action earns at least, less the tail, against every strategy of the informed player that
+/// depends on the history: a numerator over 65,536 times the total of the first belief.
 pub fn always_earns(game: &Game, action: u32) -> i128
     requires { action < game.now.shape.own_actions }
     ensures { ActionEarns (numbers game.now) (first_at game.now) (span game.now) action result }

@@ -1,6 +1,6 @@
 use Rattle.promises.proofs.Promises.{draws, earns, earns-at, earns-mean, holds-down, holds-mean}
 use Rattle.promises.proofs.Starts.{starts-are_drawn}
-use Rattle.promises.proofs.Watching.{earns-watched, earns-watched_at}
+use Rattle.promises.proofs.Watching.{earns-watched, earns-watched_at, watched-mean}
 use Rattle.promises.proofs.law_promises.Goals as goal
 
 pub returns-clause-lower : goal.returns-clause-lower
@@ -29,3 +29,6 @@ returns-clause-watched c = earns-watched c.args.game.now c.args.certificate.now 
 
 pub returns-clause-watched_at : goal.returns-clause-watched_at
 returns-clause-watched_at c = earns-watched_at c.args.game.now c.args.certificate.now c.law_game.ensures.keeps_span.full c.requires
+
+pub returns-clause-watched_mean : goal.returns-clause-watched_mean
+returns-clause-watched_mean c = watched-mean c.args.game.now c.args.certificate.now c.law_game.ensures.keeps_span.full c.requires
