@@ -13,15 +13,15 @@ use Rattle.game_model.specs.Mixed.{MixedPay}
 use Rattle.game_model.specs.Numbers.{Numbers, RowsAreFull}
 use Rattle.game_model.specs.Play.{always, pay}
 use Rattle.game_model.specs.Seeds.{FixedActionEarns}
-use Rattle.history_model.specs.Halves.{LowerHalf, LowerHalfAt, MassesDivide, UpperHalf, common, first_weights, from_total, node_plan, over_total, point_plan, reply, start}
+use Rattle.history_model.specs.Halves.{LowerHalf, LowerHalfAt, MassesDivide, UpperHalf, common, first_weights, from_total, node_plan, point_plan, reply, start}
 use Rattle.history_model.proofs.LowerHalves.{from-positive, from-sum}
 use Rattle.history_model.proofs.Standing.{node-plans, point-plans}
 use Rattle.history_model.proofs.UpperHalves.{first-positive, multiple-positive}
 use Rattle.point_set.specs.Points.{points_of}
 use Rattle.promises.specs.Courses.{chance, courses, earned}
-use Rattle.promises.specs.Machines.{brought, multiple, node_weights, one_action, point_weights}
-use Rattle.promises.specs.Promises.{ActionEarns, DrawsExactly, Earns, EarnsAt, EarnsInTheMean, HoldsDown, HoldsInTheMean, controller_earned, drawn, first_whole, start_whole, units}
-use Rattle.promises.specs.Strategies.{InformedStrategy, IsInformedStrategy, OwnStrategy, informed_weights, own_weights}
+use Rattle.promises.specs.Machines.{brought, node_weights, one_action, point_weights}
+use Rattle.promises.specs.Promises.{ActionEarns, DrawsExactly, Earns, EarnsAt, EarnsInTheMean, HoldsDown, HoldsInTheMean, controller_earned, drawn, first_whole, units}
+use Rattle.promises.specs.Strategies.{InformedStrategy, OwnStrategy, informed_weights, own_weights}
 use Rattle.promises.proofs.Machines.{action-matches, node-matches, point-matches, same-multiple}
 use Rattle.promises.proofs.Matching.{InformedMatches, OwnMatches, pays, weighs}
 use Rattle.promises.proofs.Starts.{multiple-is, reply-pays, start-pays, undrawn-least, undrawn-most}

@@ -1,17 +1,15 @@
 -- The draws of starts: what the drawn members pay, and how a common factor goes.
-use Rattle.std.proofs.Common.{◌≡◌, ◌≢◌, ℕ, ◌*◌, ◌/◌, ◌^◌, ◌<◌, ◌≤◌, List, [], ap, arith, inl, inr, length, map, refl, subst, sym, ◌∙◌}
-use Rattle.std.specs.Prelude.{ℤ, pos, ◌+ℤ◌, ◌-ℤ◌, ◌*ℤ◌, ◌≤ℤ◌, ◌<ℤ◌, sum_by, unsigned_abs}
-use Rattle.std.specs.List.{AllByRecursion}
+use Rattle.std.proofs.Common.{◌≡◌, ◌≢◌, ℕ, ◌*◌, ◌/◌, ◌^◌, ◌<◌, ◌≤◌, ap, arith, inl, inr, length, map, subst, sym, ◌∙◌}
+use Rattle.std.specs.Prelude.{ℤ, pos, ◌+ℤ◌, ◌*ℤ◌, ◌≤ℤ◌, ◌<ℤ◌, unsigned_abs}
 use Rattle.std.proofs.Math.Nat.{mul-pos, one-le-pow}
 use Rattle.std.proofs.lemmas.Bool.Decides.{eqb_tells}
 use Rattle.std.proofs.lemmas.Int.{ints}
 use Rattle.std.proofs.lemmas.Nat.{mul-pow}
-use Rattle.scaled_num.specs.Sums.{below, total}
+use Rattle.scaled_num.specs.Sums.{total}
 use Rattle.scaled_num.proofs.Products.{le-mulℤ, lt-mulℤ_cancel, magnitude-is, mul-addℤ, mulℤ_assoc, mulℤ_left_comm, products, sums}
 use Rattle.scaled_num.proofs.Sums.{each, total-map, total-pos, total-same, total-scale}
-use Rattle.alpha_set.specs.Nodes.{nodes_of}
 use Rattle.controller.specs.Certificates.{CertificateData, CertificateStands}
-use Rattle.controller.specs.Starts.{IsStart, most_from, most_over, weighted}
+use Rattle.controller.specs.Starts.{IsStart, most_from, most_over}
 use Rattle.game_model.specs.Game.{GameData, first_at, numbers}
 use Rattle.game_model.specs.Mixed.{MixedPay, mixed_informed}
 use Rattle.game_model.specs.Plan.{InformedPlan, OwnPlan}

@@ -1,12 +1,12 @@
 //! What a certificate that stands promises, said of strategies by history and of sums over all lists of stages.
 #![tactic(auto)]
 
-ghost use Rattle.promises.specs.Promises.{ActionEarns, DrawsExactly, Earns, EarnsAt, EarnsInTheMean, HoldsDown, HoldsInTheMean, StartsAreDrawn};
-ghost use Rattle.promises.specs.Watching.{EarnsWatched, EarnsWatchedAt, WatchedInTheMean};
-ghost use Rattle.controller.specs.Certificates.{CertificateStands};
 ghost use Rattle.cert_text.specs.Answers.{IsTextFor};
+ghost use Rattle.controller.specs.Certificates.{CertificateStands};
 ghost use Rattle.game_model.specs.Game.{first_at, numbers, span};
 ghost use Rattle.game_text.specs.Text.{IsTextOf};
+ghost use Rattle.promises.specs.Promises.{ActionEarns, DrawsExactly, Earns, EarnsAt, EarnsInTheMean, HoldsDown, HoldsInTheMean, StartsAreDrawn};
+ghost use Rattle.promises.specs.Watching.{EarnsWatched, EarnsWatchedAt, WatchedInTheMean};
 ghost use Rattle.std.specs.Prelude.{IfSome, IsTrue, drop, length, ℕ, ◌<◌, ◌≤◌, ◌^◌, ◌↔◌};
 
 use cert_check::{Verdict, check};
