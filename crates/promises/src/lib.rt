@@ -1,0 +1,98 @@
+//! What a certificate that stands promises, said of strategies by history and of sums over all lists of stages.
+#![tactic(auto)]
+
+ghost use Rattle.cert_text.specs.Answers.{IsTextFor};
+ghost use Rattle.controller.specs.Certificates.{CertificateStands};
+ghost use Rattle.game_model.specs.Game.{first_at, numbers, span};
+ghost use Rattle.game_text.specs.Text.{IsTextOf};
+ghost use Rattle.promises.specs.Promises.{ActionEarns, DrawsExactly, Earns, EarnsAt, EarnsInTheMean, HoldsDown, HoldsInTheMean, StartsAreDrawn};
+ghost use Rattle.promises.specs.Watching.{EarnsWatched, EarnsWatchedAt, WatchedInTheMean};
+ghost use Rattle.std.specs.Prelude.{IfSome, IsTrue, drop, length, ℕ, ◌<◌, ◌≤◌, ◌^◌, ◌↔◌};
+
+use cert_check::{Verdict, check};
+use controller::Certificate;
+use game_model::{Game, MOST_STATES, law_game, law_mixed, law_seeds, law_weights};
+use history_model::{law_lower, law_upper};
+use std::alloc::Global;
+
+/// Whether a certificate stands. If it does, its controller earns at least the lower bound less the tail against every
+/// strategy of the informed player that depends on the history, also where it sees the controller's nodes; and its
+/// splitting strategy holds every strategy of player one that depends on the history to at most the upper bound plus
+/// the tail.
+pub fn earns(game: &Game, certificate: &Certificate) -> bool
+    ensures stands { IsTrue result ↔ CertificateStands game.now certificate.now }
+    ensures lower { IsTrue result → Earns game.now certificate.now }
+    ensures lower_at { IsTrue result → EarnsAt game.now certificate.now }
+    ensures lower_mean { IsTrue result → EarnsInTheMean game.now certificate.now }
+    ensures watched { IsTrue result → EarnsWatched game.now certificate.now }
+    ensures watched_at { IsTrue result → EarnsWatchedAt game.now certificate.now }
+    ensures watched_mean { IsTrue result → WatchedInTheMean game.now certificate.now }
+    ensures upper { IsTrue result → HoldsDown game.now certificate.now }
+    ensures upper_mean { IsTrue result → HoldsInTheMean game.now certificate.now }
+    ensures draws { IsTrue result → DrawsExactly game.now certificate.now }
+    ensures starts { IsTrue result → StartsAreDrawn game.now certificate.now }
+{
+    if !certificate.fits(game) {
+        return false;
+    }
+    if check(game, certificate) != Verdict::Yes {
+        return false;
+    }
+    law_promises(game, certificate);
+    true
+}
+
+/// A law: a certificate that stands keeps the promises.
+pub fn law_promises(game: &Game, certificate: &Certificate)
+    requires { CertificateStands game.now certificate.now }
+    ensures lower { Earns game.now certificate.now }
+    ensures lower_at { EarnsAt game.now certificate.now }
+    ensures lower_mean { EarnsInTheMean game.now certificate.now }
+    ensures watched { EarnsWatched game.now certificate.now }
+    ensures watched_at { EarnsWatchedAt game.now certificate.now }
+    ensures watched_mean { WatchedInTheMean game.now certificate.now }
+    ensures upper { HoldsDown game.now certificate.now }
+    ensures upper_mean { HoldsInTheMean game.now certificate.now }
+    ensures draws { DrawsExactly game.now certificate.now }
+    ensures starts { StartsAreDrawn game.now certificate.now }
+{
+    law_game(game);
+    law_weights();
+    law_mixed();
+    law_lower(game, certificate);
+    law_upper(game, certificate);
+}
+
+/// What always playing one action earns at least, less the tail, against every strategy of the informed player that
+/// depends on the history: a numerator over 65,536 times the total of the first belief.
+pub fn always_earns(game: &Game, action: u32) -> i128
+    requires { action < game.now.shape.own_actions }
+    ensures { ActionEarns (numbers game.now) (first_at game.now) (span game.now) action result }
+{
+    law_game(game);
+    law_seeds();
+    let mut entries = [0; MOST_STATES];
+    let vector = &mut entries[..game.states() as usize];
+    game.steady(action, vector);
+    game.first_product(vector)
+}
+
+/// The game and the certificate that the bytes spell, one at once after the other, where the certificate stands; None
+/// where they spell none, where it doesn't stand, and for want of memory.
+pub fn told(alloc: Global, bytes: &[u8]) -> Option<(Game, Certificate)>
+    requires { length bytes.now ≤ 2 ^ 27 }
+    ensures text { IfSome result (λ found. (place : ℕ) × IsTextOf found.0 bytes.now (drop place bytes.now) × IsTextFor found.0 found.1 (drop place bytes.now)) }
+    ensures lower { IfSome result (λ found. Earns found.0 found.1) }
+    ensures upper { IfSome result (λ found. HoldsDown found.0 found.1) }
+{
+    let Ok((game, place)) = game_text::read(alloc, bytes) else {
+        return None;
+    };
+    let Ok(certificate) = cert_text::read(alloc, &game, &bytes[place..]) else {
+        return None;
+    };
+    if !earns(&game, &certificate) {
+        return None;
+    }
+    Some((game, certificate))
+}
