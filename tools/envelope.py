@@ -3,8 +3,9 @@
 
     tools/envelope.py CERTIFICATE PICTURE.png
 
-Below, the greatest of the nodes' vectors; above, the sawtooth bound of the points: the corners and, at each belief, the
-one point that brings most. Points stand at their beliefs. The picture needs matplotlib, and proves nothing.
+Below, the greatest of the nodes' vectors. Above, for two states, what a belief costs at least that is divided among the
+points; for three, the sawtooth bound: the corners and, at each belief, the one point that brings most. Points stand at
+their beliefs. The picture needs matplotlib, and proves nothing.
 """
 import sys
 
@@ -47,10 +48,24 @@ def corners_of(points, states):
     return [min(value for at, value in points if at[s] == 1) for s in range(states)]
 
 
-def draw_two(axes, vectors, points, corners):
+def hull(points):
+    """The points of two states among which beliefs are divided cheapest, from left to right."""
+    kept = []
+    for x, y in sorted((at[1], value) for at, value in points):
+        while len(kept) >= 2:
+            (a, b), (c, d) = kept[-2:]
+            if (d - b) * (x - a) < (y - b) * (c - a):
+                break
+            kept.pop()
+        if not kept or kept[-1][0] < x:
+            kept.append((x, y))
+    return kept
+
+
+def draw_two(axes, vectors, points):
     beliefs = [(1 - k / STEPS, k / STEPS) for k in range(STEPS + 1)]
     right = [belief[1] for belief in beliefs]
-    axes.plot(right, [above(points, corners, b) for b in beliefs], color="tab:red", label="upper bound: sawtooth of the points")
+    axes.plot(*zip(*hull(points)), color="tab:red", label="upper bound: division among the points")
     axes.plot(right, [below(vectors, b) for b in beliefs], color="tab:blue", label="lower bound: greatest of the nodes")
     axes.plot([at[1] for at, _ in points], [value for _, value in points], "o", color="tab:red", markersize=3)
     axes.set_xlabel("belief that the state is 1")
@@ -92,14 +107,13 @@ def main():
     matplotlib.use("Agg")
     from matplotlib import pyplot
 
-    corners = corners_of(points, states)
     if states == 2:
         figure, axes = pyplot.subplots(figsize=(7, 4))
-        draw_two(axes, vectors, points, corners)
+        draw_two(axes, vectors, points)
         figure.tight_layout()
     else:
         figure, axes = pyplot.subplots(1, 3, figsize=(13, 4), layout="constrained")
-        draw_three(figure, axes, vectors, points, corners)
+        draw_three(figure, axes, vectors, points, corners_of(points, states))
     figure.savefig(sys.argv[2], dpi=120)
 
 
