@@ -1,4 +1,5 @@
-//! How finely rounds tell beliefs apart: coarsely at first, so that one visit serves many masses, and ever more finely.
+//! How finely rounds tell beliefs apart, and how many they visit: coarsely and few at first, so that one visit serves
+//! many masses, and ever more finely and more of them.
 
 use game_model::MIX_TOTAL;
 
@@ -14,6 +15,12 @@ const LEAST_NEAR: i64 = 1 << 10;
 /// What of a mass's gap may be lost at first where corners are taken off it: a quarter, of 256.
 const FIRST_LOSS: i128 = 64;
 
+/// How many beliefs the first round visits at most.
+const FIRST_BUDGET: u32 = 64;
+
+/// How many beliefs a round visits at most.
+const MOST_BUDGET: u32 = 400;
+
 /// How finely a round tells beliefs apart.
 #[derive(Clone, Copy)]
 pub struct Fineness {
@@ -23,6 +30,8 @@ pub struct Fineness {
     pub near: i64,
     /// What of a mass's gap may be lost where corners are taken off it, of 256.
     pub loss: i128,
+    /// How many beliefs are visited at most on the way from the first one.
+    pub budget: u32,
 }
 
 impl Fineness {
@@ -32,6 +41,7 @@ impl Fineness {
             grid: FIRST_GRID,
             near: FIRST_NEAR,
             loss: FIRST_LOSS,
+            budget: FIRST_BUDGET,
         }
     }
 
@@ -42,17 +52,20 @@ impl Fineness {
 
     /// That of the round after one that changed a member, or changed none.
     pub fn finer(&self, changed: bool) -> Fineness {
+        let budget = (self.budget.saturating_mul(5) / 4).min(MOST_BUDGET);
         if changed {
             Fineness {
                 grid: self.grid,
                 near: self.near - self.near / 4,
                 loss: self.loss,
+                budget,
             }
         } else {
             Fineness {
                 grid: self.grid.saturating_mul(2).min(MIX_TOTAL),
                 near: self.near / 4,
                 loss: self.loss / 2,
+                budget,
             }
         }
     }

@@ -19,9 +19,6 @@ use game_model::{Game, law_game};
 use point_set::PointSet;
 use std::alloc::{AllocError, Global};
 
-/// How many beliefs a round visits at most on its way from the first one.
-const BUDGET: u32 = 64;
-
 /// What one round makes of a certificate: it visits the beliefs from the first one on, told apart so finely, those first
 /// on which most of the gap hangs, then the corners, then the visited beliefs once more for points, from the last to the first; then all
 /// members are swept, and in the end the starts move to better members.
@@ -75,7 +72,7 @@ fn visit_all(
 {
     law_game(game);
     let mut frontier = Frontier::of(alloc, game, *fineness)?;
-    explore(alloc, game, &mut frontier, nodes, points)?;
+    explore(alloc, game, fineness.budget, &mut frontier, nodes, points)?;
     for s in 0..game.states() {
         visit_corner(alloc, game, s, nodes, points)?;
     }
@@ -108,6 +105,7 @@ fn visit_corner(
 fn explore(
     alloc: Global,
     game: &Game,
+    budget: u32,
     frontier: &mut Frontier,
     nodes: &mut NodeSet,
     points: &mut PointSet,
@@ -117,7 +115,7 @@ fn explore(
     ensures nodes { NodesGoOn game.now nodes.old.members nodes.new.members }
     ensures points { PointsGoOn game.now points.old.members points.new.members }
 {
-    for _ in 0..BUDGET {
+    for _ in 0..budget {
         match frontier.take() {
             Some(open) => visit_open(alloc, game, frontier, open, nodes, points)?,
             None => return Ok(()),
