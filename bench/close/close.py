@@ -1,10 +1,10 @@
 #!/usr/bin/env python3
 """What `close` makes of the certificates that `solve --trials 20` writes: gaps, time, members, and the checker's yes.
 
-    bench/close/close.py PROGRAM [--rounds N] [GAME ..]
+    bench/close/close.py PROGRAM [--rounds N] [--sizes K,K,..] [GAME ..]
 
 PROGRAM is the built program (crates/osposg_cli/out/osposg_cli). Without games it takes all of games/ and the generated
-games 1 to 5 of sizes 3 to 5. Each result is checked, and made twice: both must be the same bytes.
+games 1 to 5 of the sizes, 3 to 5 where none are named. Each result is checked, and made twice: both must be the same bytes.
 """
 import argparse
 import pathlib
@@ -30,7 +30,7 @@ def bounds(certificate):
     return float(gap), said["sizes"]
 
 
-def games(program, named):
+def games(program, named, sizes):
     """Names and texts of the games."""
     if named:
         for name in named:
@@ -38,7 +38,7 @@ def games(program, named):
         return
     for path in sorted((TOP / "games").glob("*.game")):
         yield path.stem, path.read_bytes()
-    for size in (3, 4, 5):
+    for size in sizes:
         for number in range(1, 6):
             yield f"gen {number} {size}", run(program, ["gen", f"--number={number}", f"--size={size}"], b"")[1]
 
@@ -47,12 +47,13 @@ def main():
     parser = argparse.ArgumentParser()
     parser.add_argument("program")
     parser.add_argument("--rounds", default="100")
+    parser.add_argument("--sizes", default="3,4,5")
     parser.add_argument("games", nargs="*")
     given = parser.parse_args()
     failed = False
     print("| game | gap of solve | gap of close | seconds | nodes, points | check |")
     print("|---|---|---|---|---|---|")
-    for name, game in games(given.program, given.games):
+    for name, game in games(given.program, given.games, given.sizes.split(",")):
         code, first = run(given.program, ["solve", "--trials=20"], game)
         if code not in (0, 2):
             print(f"| {name} | solve ended with {code} | | | | |")
