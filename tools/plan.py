@@ -1,11 +1,13 @@
 #!/usr/bin/env python3
 """Prints the plan of a certificate as a card, or as a graph.
 
-usage: plan.py CERTIFICATE [--dot]
+usage: plan.py CERTIFICATE [GAME] [--dot]
 
 The card has a row for each own action of each node that the plan can come to: how often it is taken, and after each
-observation where to go on. Shares are in hundredths, rounded; the certificate has the exact ones. With --dot the graph
-is printed for Graphviz (plan.py CERTIFICATE --dot | dot -Tpng > plan.png). Nothing of this is proved.
+observation where to go on. Shares are in hundredths, rounded; the certificate has the exact ones. A certificate goes on
+after every observation, also after one that the action cannot bring; with the game those are left out. With --dot the
+graph is printed for Graphviz (plan.py CERTIFICATE --dot | dot -Tpng > plan.png), which may take minutes and more to draw
+a hundred nodes. Nothing of this is proved.
 """
 
 import sys
@@ -42,6 +44,21 @@ def read_plan(path):
     if not starts or not nodes:
         sys.exit(f"{path} is no certificate")
     return starts, nodes
+
+
+def keep_possible(path, nodes):
+    """Leaves out what follows observations that an own action never brings in the game."""
+    possible, own = set(), None
+    for line in open(path):
+        words = line.split("#")[0].split()
+        if words[:1] == ["step"]:
+            own = int(words[2])
+        elif words[:1] == ["out"]:
+            possible.add((own, int(words[1])))
+    if not possible:
+        sys.exit(f"{path} is no game")
+    for node in nodes:
+        node.next = defaultdict(list, {pair: branches for pair, branches in node.next.items() if pair in possible})
 
 
 def reached(starts, nodes):
@@ -103,9 +120,11 @@ def print_graph(starts, nodes):
 
 def main():
     words = [word for word in sys.argv[1:] if word != "--dot"]
-    if len(words) != 1 or words[0].startswith("-"):
+    if len(words) not in (1, 2) or words[0].startswith("-"):
         sys.exit(__doc__)
     starts, nodes = read_plan(words[0])
+    if len(words) == 2:
+        keep_possible(words[1], nodes)
     (print_graph if "--dot" in sys.argv else print_card)(starts, nodes)
 
 
