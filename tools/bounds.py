@@ -3,9 +3,10 @@
 
     tools/bounds.py PROGRAM GAME PICTURE.png [--most N] [--rounds N]
 
-PROGRAM is the built program. It is run for 0, 1, 2, 4, 8, .. trials up to N (64 where nothing else is said), and `close`
-once on the last certificate. A table goes to standard output. The picture needs matplotlib, and proves nothing: the
-bounds are those that the program printed, and `check` judges each certificate.
+PROGRAM is ./osposg, or crates/osposg_cli/out/osposg_cli where that is built. It is run for 0, 1, 2, 4, 8, .. trials up
+to N (64 where nothing else is said), and `close` once on the last certificate. A table of the trials and the bounds goes
+to standard output. The picture needs matplotlib, and proves nothing: the bounds are those that the program printed, and
+`check` judges each certificate.
 """
 import argparse
 import pathlib
@@ -62,6 +63,7 @@ def main():
     found = [certificate(words.program, ["solve", "--trials", str(number)], game) for number in trials]
     closed = bounds_of(certificate(words.program, ["close", "--rounds", str(words.rounds)], game + found[-1]))
     lower, upper = zip(*map(bounds_of, found))
+    print(f"{'trials':>6} {'lower':>12} {'upper':>12} {'gap':>12}")
     for number, low, high in zip([*trials, "close"], [*lower, closed[0]], [*upper, closed[1]]):
         print(f"{number:>6} {low:12.4f} {high:12.4f} {high - low:12.4f}")
     draw(words.picture, words.game.name, trials, lower, upper, closed)

@@ -3,10 +3,14 @@
 
     tools/plays.py PROGRAM GAME CERTIFICATE [--seeds N] [--stages N] [--rival uniform|points] [--picture FILE.png]
 
-PROGRAM is the built program. The table says how many plays there were, their least, mean and greatest gain, the standard
-deviation, and what the certificate proves over that many stages: the lower bound less the tail, and against the rival
-`points` the upper bound plus the tail. The bounds are proved of *expected* gains; the mean over seeds is a picture of
-them and proves nothing, and nothing is claimed of how even the draws are. A picture needs matplotlib.
+PROGRAM is crates/osposg_cli/out/osposg_cli where that is built, or ./osposg, which begins each play more slowly. Plays
+are at most 64 stages long, and shorter where their exact gain has no room (33 stages where the discount is in tenths).
+The rival `points` plays the informed half of the certificate, `uniform` every informed action alike.
+
+The table says how many plays there were, their least, mean and greatest gain, the standard deviation, and what the
+certificate proves over that many stages: the lower bound less the tail, and against the rival `points` the upper bound
+plus the tail. The bounds are proved of *expected* gains; the mean over seeds is a picture of them and proves nothing, and
+nothing is claimed of how even the draws are. A picture needs matplotlib.
 """
 import argparse
 import pathlib
