@@ -55,8 +55,8 @@ def keep_possible(path, nodes):
             own = int(words[2])
         elif words[:1] == ["out"]:
             possible.add((own, int(words[1])))
-    if not possible:
-        sys.exit(f"{path} is no game")
+    if len({own for own, _ in possible}) != len(nodes[0].mix):
+        sys.exit(f"{path} is not the game of this certificate")
     for node in nodes:
         node.next = defaultdict(list, {pair: branches for pair, branches in node.next.items() if pair in possible})
 

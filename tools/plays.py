@@ -4,7 +4,7 @@
     tools/plays.py PROGRAM GAME CERTIFICATE [--seeds N] [--stages N] [--rival uniform|points] [--picture FILE.png]
 
 PROGRAM is crates/osposg_cli/out/osposg_cli where that is built, or ./osposg, which begins each play more slowly. Plays
-are at most 64 stages long, and shorter where their exact gain has no room (33 stages where the discount is in tenths).
+are at most 64 stages long, and shorter where their exact gain has no room (about 30 stages where the discount is in tenths).
 The rival `points` plays the informed half of the certificate, `uniform` every informed action alike.
 
 The table says how many plays there were, their least, mean and greatest gain, the standard deviation, and what the
