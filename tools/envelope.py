@@ -5,7 +5,7 @@
 
 Below, the greatest of the nodes' vectors. Above, for two states, what a belief costs at least that is divided among the
 points; for three, the sawtooth bound: the corners and, at each belief, the one point that brings most. Points stand at
-their beliefs. The picture needs matplotlib, and proves nothing.
+their beliefs; one above the red line is no longer needed there. The picture needs matplotlib, and proves nothing.
 """
 import sys
 

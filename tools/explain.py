@@ -35,7 +35,7 @@ GAME_DUE = {
     "": "osposg 1",
     "osposg": "size S A C O",
     "size": "total D",
-    "total": "discount P Q",
+    "total": "discount P Q, two whole numbers, 9 10 for 9/10",
     "discount": "first b0 b1 .., a weight for each state",
     "first": "step 0 0 0 r",
     "step": "out o t w",
@@ -52,10 +52,11 @@ GAME_LIMITS = {
 GAME_KINDS = {
     1: "the first line with words must be: osposg 1",
     2: "the first word or the number of words is not what is due here: {due}",
-    3: "a word where a number is due is no number: at most one sign, then digits, at most 36 characters",
+    3: "a word where a number is due is no whole number: at most one sign, then digits, at most 36 characters",
     4: "a number is outside its limit: {limit}",
     5: {
-        "step": "it is not the next row: rows come in rising order of state, own action, informed action, the last one fastest",
+        "step": "it is not the next row: rows come in rising order of state, own action, informed action, the last one fastest; "
+        "or the row before it is missing",
         "out": "the out lines of a row rise by observation, then by next state, and none comes twice",
     },
     6: {

@@ -7,7 +7,8 @@ The card has a row for each own action of each node that the plan can come to: h
 observation where to go on. Shares are in hundredths, rounded; the certificate has the exact ones. A certificate goes on
 after every observation, also after one that the action cannot bring; with the game those are left out. With --dot the
 graph is printed for Graphviz (plan.py CERTIFICATE --dot | dot -Tpng > plan.png), which may take minutes and more to draw
-a hundred nodes. Nothing of this is proved.
+a hundred nodes: a box has each own action with its share, an arrow the own action, what is seen, and the share of the
+cases that go on this way. Nothing of this is proved.
 """
 
 import sys
