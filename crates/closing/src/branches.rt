@@ -12,13 +12,13 @@ use crate::hulls::Hull;
 use crate::places::pair_place;
 use crate::pushing::{push_out, write_parts};
 use crate::sharing::share;
-use crate::sums::product;
+use crate::sums::{product, ratio, total_of};
 use crate::visits::Seen;
 use alpha_set::NodeSet;
 use belief::{Belief, Mixes, mass, reduce};
-use game_model::{Game, MIX_TOTAL, MOST_STATES, law_game};
+use game_model::{Game, MIX_TOTAL, MOST_STATES, UNITS, law_game};
 use point_set::PointSet;
-use scaled_num::sum;
+use scaled_num::{Fraction, sum};
 use std::alloc::{AllocError, Global};
 
 /// The share of the first belief.
@@ -30,8 +30,9 @@ pub struct Open {
     pub belief: Belief,
     /// How much of the first belief's play comes here, discounted, of 2^36.
     pub share: i128,
-    /// What the bounds are apart here in units, times the share.
-    pub gap: i128,
+    /// What of the gap hangs on where this belief's own gap comes from: what is lost where it is divided among points, in
+    /// units, times the share.
+    pub bend: i128,
 }
 
 /// Beliefs that may be visited, and those that were.
@@ -41,6 +42,8 @@ pub struct Frontier {
     pub visited: Vec<Belief>,
     /// How finely beliefs are told apart.
     fineness: Fineness,
+    /// A belief on which less hangs is not visited: in units, times the share.
+    least: i128,
 }
 
 impl Frontier {
@@ -49,24 +52,30 @@ impl Frontier {
     /// # Errors
     ///
     /// Where no memory is to be had.
-    pub fn of(alloc: Global, game: &Game, fineness: Fineness) -> Result<Frontier, AllocError> {
+    pub fn of(
+        alloc: Global,
+        game: &Game,
+        fineness: Fineness,
+        gap: &Fraction,
+    ) -> Result<Frontier, AllocError> {
         let first = Open {
             belief: Belief::first_of(game),
             share: WHOLE,
-            gap: i128::MAX,
+            bend: i128::MAX,
         };
         Ok(Frontier {
             open: vec![in alloc; first]?,
             visited: Vec::new(alloc),
             fineness,
+            least: ratio(gap.num.saturating_mul(UNITS), gap.den).saturating_mul(WHOLE / 400),
         })
     }
 
-    /// Takes the first open belief of greatest gap.
+    /// Takes the first open belief of greatest bend.
     pub fn take(&mut self) -> Option<Open> {
         let mut best = 0;
         for i in 1..self.open.len() {
-            if self.open[best].gap < self.open[i].gap {
+            if self.open[best].bend < self.open[i].bend {
                 best = i;
             }
         }
@@ -82,7 +91,7 @@ impl Frontier {
         self.visited.iter().any(|visited| visited.same(belief))
     }
 
-    /// Adds a belief, where there is one, with its share and its gap.
+    /// Adds a belief, where there is one, with its share and its bend.
     ///
     /// # Errors
     ///
@@ -91,15 +100,19 @@ impl Frontier {
         &mut self,
         belief: Option<Belief>,
         share: i128,
-        gap: i128,
+        bend: i128,
     ) -> Result<(), AllocError> {
         match belief {
-            Some(belief) => self.add(Open { belief, share, gap }),
+            Some(belief) => self.add(Open {
+                belief,
+                share,
+                bend,
+            }),
             None => Ok(()),
         }
     }
 
-    /// Adds an open belief: one that was visited is left out, and to one that is open its share and its gap are added.
+    /// Adds an open belief: one that was visited is left out, and to one that is open its share and its bend are added.
     ///
     /// # Errors
     ///
@@ -111,7 +124,7 @@ impl Frontier {
         for open in &mut self.open {
             if open.belief.same(&next.belief) {
                 open.share = open.share.saturating_add(next.share);
-                open.gap = open.gap.saturating_add(next.gap);
+                open.bend = open.bend.saturating_add(next.bend);
                 return Ok(());
             }
         }
@@ -174,12 +187,15 @@ impl Frontier {
         for o in 0..game.observations() {
             write_mass(game, &from.belief, &seen.informed, a, o, weights);
             let share = share_of(game, from, own, weights);
-            let heights = hull.divide(game, points, pair_place(game, a, o), weights);
-            let rate = apart(game, nodes, weights, &heights);
-            let gap = share.saturating_mul(rate);
-            if gap > 0 {
+            let pair = pair_place(game, a, o);
+            let heights = hull.divide(game, points, pair, weights);
+            let low = lower_rate(game, nodes, weights);
+            let rate = upper_rate(weights, &heights).saturating_sub(low);
+            if share.saturating_mul(rate) >= self.least {
+                let lost = hull.worth(game, nodes, points, pair).saturating_sub(low);
+                let bend = share.saturating_mul(lost.max(rate / 64));
                 let belief = stand_in(game, nodes, points, hull, weights, rate, &self.fineness);
-                self.add_some(belief, share, gap)?;
+                self.add_some(belief, share, bend)?;
             }
         }
         Ok(())
@@ -221,14 +237,19 @@ fn quotient(over: i128, under: i128) -> i128 {
     if under > 0 { over / under } else { 0 }
 }
 
-/// What the bounds are apart at a mass in units, where next states are worth these heights above.
-fn apart(game: &Game, nodes: &NodeSet, mass: &[i128], heights: &[i128; MOST_STATES]) -> i128
+/// What a mass is worth at most, in units for its total, where next states are worth these heights above.
+fn upper_rate(mass: &[i128], heights: &[i128; MOST_STATES]) -> i128 {
+    quotient(product(mass, heights), total_of(mass))
+}
+
+/// What the nodes are worth at a mass, in units for its total.
+fn lower_rate(game: &Game, nodes: &NodeSet, mass: &[i128]) -> i128
     requires nodes { AreNodes game.now nodes.now.members }
     requires mass { IsMass game.now mass.now }
 {
     law_game(game);
     let (low, _) = nodes.worth(mass);
-    quotient(product(mass, heights).saturating_sub(low), sum(mass))
+    quotient(low, sum(mass))
 }
 
 /// The belief that is visited in the place of a mass whose bounds are apart so much: the mass, pushed out where that
@@ -270,7 +291,7 @@ fn brought(
     requires mass { IsMass game.now mass.now }
 {
     law_game(game);
-    if let Some(k) = hull.nearest(mass, fineness.near) {
+    if let Some(k) = hull.nearest(mass, fineness.near, fineness.grid) {
         if k < points.len() {
             return Some(points.point(k).belief.copied());
         }

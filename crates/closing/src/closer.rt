@@ -11,8 +11,9 @@ use crate::export::exported;
 use crate::fineness::Fineness;
 use crate::rounds::round;
 use crate::signs::Signs;
+use crate::sums::ratio;
 use controller::{Certificate, Outcome};
-use game_model::Game;
+use game_model::{Game, UNITS};
 use scaled_num::Fraction;
 use std::alloc::{AllocError, Global};
 
@@ -89,14 +90,29 @@ fn improved(
     let mut fineness = Fineness::coarse();
     for _ in 0..rounds {
         let before = Signs::of(&best);
+        let apart = bounds_apart(&best);
         best = round(alloc, game, best, &fineness)?;
-        let changed = Signs::of(&best) != before;
-        if is_done(&best, &fineness, changed) {
+        if is_done(&best, &fineness, Signs::of(&best) != before) {
             return Ok(best);
         }
-        fineness = fineness.finer(changed);
+        fineness = fineness.finer(is_much_less(bounds_apart(&best), apart));
     }
     Ok(best)
+}
+
+/// What the bounds of a certificate are apart, in units.
+fn bounds_apart(certificate: &Certificate) -> i128 {
+    in_units(&certificate.upper).saturating_sub(in_units(&certificate.lower))
+}
+
+/// A fraction in units.
+fn in_units(fraction: &Fraction) -> i128 {
+    ratio(fraction.num.saturating_mul(UNITS), fraction.den)
+}
+
+/// Whether a number is less than another by an eighth or more.
+fn is_much_less(number: i128, other: i128) -> bool {
+    number.saturating_mul(8) <= other.saturating_mul(7)
 }
 
 /// Whether no further round is needed, after one that told beliefs apart so finely and changed a member or none.

@@ -9,6 +9,35 @@ use controller::{Certificate, export};
 use game_model::{Game, law_game};
 use std::alloc::{AllocError, Global};
 
+/// With more members of a side there is little room for others.
+const MOST_HELD: u32 = 900;
+
+/// The certificate itself where there is room for other members, and else its export.
+///
+/// # Errors
+///
+/// Where no memory is to be had.
+pub fn with_room(
+    alloc: Global,
+    game: &Game,
+    certificate: Certificate,
+) -> Result<Certificate, AllocError>
+    requires stands { CertificateStands game.now certificate }
+    requires ends { EndsByGap certificate }
+    ensures { IfOk result (IsBetter game.now certificate) }
+{
+    if is_nearly_full(&certificate) {
+        exported(alloc, game, &certificate)
+    } else {
+        Ok(certificate)
+    }
+}
+
+/// Whether there is little room for nodes or points.
+fn is_nearly_full(certificate: &Certificate) -> bool {
+    certificate.nodes.len() > MOST_HELD || certificate.points.len() > MOST_HELD
+}
+
 /// The export of a certificate that stands: the members that its starts reach, with the same bounds.
 ///
 /// # Errors

@@ -50,10 +50,10 @@ impl Fineness {
         self.grid >= MIX_TOTAL && self.near < LEAST_NEAR && self.loss == 0
     }
 
-    /// That of the round after one that changed a member, or changed none.
-    pub fn finer(&self, changed: bool) -> Fineness {
+    /// That of the round after one that brought the bounds much nearer together, or did not.
+    pub fn finer(&self, gained: bool) -> Fineness {
         let budget = (self.budget.saturating_mul(5) / 4).min(MOST_BUDGET);
-        if changed {
+        if gained {
             Fineness {
                 grid: self.grid,
                 near: self.near - self.near / 4,

@@ -21,6 +21,14 @@ pub fn word(number: i128) -> i64 {
     number.clamp(-MOST, MOST) as i64
 }
 
+/// The greatest height of a plane.
+const MOST_HEIGHT: i128 = (1 << 36) - 1;
+
+/// A number brought within 2^36, in 64 bits.
+pub fn narrow(number: i128) -> i64 {
+    number.clamp(-MOST_HEIGHT, MOST_HEIGHT) as i64
+}
+
 /// The product of two such numbers.
 pub fn fixed_product(first: i128, second: i128) -> i128 {
     bounded(first.wrapping_mul(second) >> BITS)
@@ -43,10 +51,10 @@ pub fn fixed_less(number: i128, first: i128, second: i128) -> i128 {
     bounded(number.wrapping_sub(first.wrapping_mul(second) >> BITS))
 }
 
-/// The sum of the products of two lists, place by place.
-pub fn fixed_sum(first: &[i128], second: &[i128]) -> i128 {
+/// The sum of the products of two lists, place by place, over so many places.
+pub fn fixed_sum(first: &[i128], second: &[i128], count: usize) -> i128 {
     let mut sum: i128 = 0;
-    for (one, other) in first.iter().zip(second) {
+    for (one, other) in first.iter().zip(second).take(count) {
         sum = sum.wrapping_add(one.wrapping_mul(*other));
     }
     sum >> BITS

@@ -1,6 +1,7 @@
 //! Closing a certificate: its members are made better until its gap closes.
 #![tactic(auto)]
 
+mod bases;
 mod branches;
 mod closer;
 mod export;
@@ -14,6 +15,7 @@ mod master;
 mod matching;
 mod places;
 mod pushing;
+mod recent;
 mod restarts;
 mod rounds;
 mod sharing;
@@ -28,4 +30,3 @@ mod visits;
 mod wishes;
 
 pub use closer::{MOST_ROUNDS, close};
-pub use matching::{matched_node, matched_point};

@@ -136,7 +136,7 @@ fn lower_advice(
     })
 }
 
-/// A point for a belief, with player one's mix that answers it. The point has the belief and fits the game, and it
+/// A point for a belief, with player one's mix that answers it; the hull is that of the points. The point has the belief and fits the game, and it
 /// stands among the points, also when others come behind them.
 ///
 /// # Errors
@@ -146,11 +146,10 @@ pub fn matched_point(
     alloc: Global,
     game: &Game,
     belief: &Belief,
-    nodes: &NodeSet,
     points: &PointSet,
+    hull: &mut Hull,
 ) -> Result<(Vec<i128>, Point), AllocError>
     requires belief { BeliefFits game.now belief.now }
-    requires nodes { NodesServe game.now nodes.now.members }
     requires points { PointsServe game.now points.now.members }
     ensures own { IfOk result (λ made. IsMix game.now.shape.own_actions made.0.items) }
     ensures belief { IfOk result (λ made. (point_data made.1).belief ≡ belief.now) }
@@ -160,14 +159,13 @@ pub fn matched_point(
     ensures stays { IfOk result (λ made. (more : List PointData) →
         PointStands (numbers game.now) (points_of (points.now.members ++ more)) (point_of (point_data made.1))) }
 {
-    let mut hull = Hull::of(alloc, game, points)?;
     let mut stage = Stage::of(alloc, game, belief)?;
-    begin_points(alloc, game, belief, points, &mut hull, &EVEN, &mut stage)?;
+    begin_points(alloc, game, belief, points, hull, &EVEN, &mut stage)?;
     let known = known_mixes(belief, points);
-    begin_points(alloc, game, belief, points, &mut hull, &known, &mut stage)?;
-    play_points(alloc, game, belief, points, &mut hull, &mut stage)?;
+    begin_points(alloc, game, belief, points, hull, &known, &mut stage)?;
+    play_points(alloc, game, belief, points, hull, &mut stage)?;
     stage.end();
-    let advice = upper_advice(alloc, game, belief, points, &mut hull, &stage)?;
+    let advice = upper_advice(alloc, game, belief, points, hull, &stage)?;
     let point = new_point(alloc, game, belief, &advice, points)?;
     Ok((advice.own, point))
 }

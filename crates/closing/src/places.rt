@@ -1,7 +1,10 @@
-//! Places in the tables of matching, which have room for the largest game.
+//! Places in the tables of matching, which have room for the largest game, and which beliefs are a game's.
 
+ghost use Rattle.stage_game.specs.Asked.{BeliefFits};
+ghost use Rattle.std.specs.Bool.{IsTrue};
 ghost use Rattle.std.specs.Prelude.{length, ◌<◌, ◌≡◌};
 
+use belief::Belief;
 use game_model::{Game, law_game};
 
 /// How many actions a player has at most.
@@ -45,4 +48,11 @@ pub fn add_at(numbers: &mut [i128], place: u32, more: i128)
     if (place as usize) < numbers.len() {
         numbers[place as usize] = numbers[place as usize].saturating_add(more);
     }
+}
+
+/// Whether a belief has a weight for each state of a game.
+pub fn is_of_game(game: &Game, belief: &Belief) -> bool
+    ensures { IsTrue result → BeliefFits game.now belief.now }
+{
+    belief.parts().len() == game.states() as usize
 }

@@ -3,12 +3,13 @@
 ghost use Rattle.closing.specs.Better.{AreNodes, ArePoints, NodesGoOn, PointsGoOn};
 ghost use Rattle.closing.specs.Closer.{IsBetter};
 ghost use Rattle.controller.specs.Certificates.{CertificateStands};
-ghost use Rattle.stage_game.specs.Asked.{BeliefFits};
-ghost use Rattle.std.specs.Bool.{IsTrue};
+ghost use Rattle.controller.specs.Concluded.{EndsByGap};
 ghost use Rattle.std.specs.Prelude.{IfOk, ◌<◌};
 
 use crate::branches::{Frontier, Open};
+use crate::export::with_room;
 use crate::fineness::Fineness;
+use crate::places::is_of_game;
 use crate::restarts::restarted;
 use crate::sweeps::{sweep_nodes, sweep_points};
 use crate::visits::{visit, visit_points};
@@ -17,11 +18,13 @@ use belief::Belief;
 use controller::Certificate;
 use game_model::{Game, law_game};
 use point_set::PointSet;
+use scaled_num::Fraction;
 use std::alloc::{AllocError, Global};
 
-/// What one round makes of a certificate: it visits the beliefs from the first one on, told apart so finely, those first
-/// on which most of the gap hangs, then the corners, then the visited beliefs once more for points, from the last to the first; then all
-/// members are swept, and in the end the starts move to better members.
+/// What one round makes of a certificate: where there is little room, members that the starts do not reach are dropped.
+/// Then it visits the beliefs from the first one on, told apart so finely, those first where most is lost by a division
+/// among points, then the corners, then the visited beliefs once more for points, from the last to the first. Then all
+/// members are swept, the points visited and swept once more, and in the end the starts move to better members.
 ///
 /// # Errors
 ///
@@ -32,10 +35,12 @@ pub fn round(
     certificate: Certificate,
     fineness: &Fineness,
 ) -> Result<Certificate, AllocError>
-    requires { CertificateStands game.now certificate }
+    requires stands { CertificateStands game.now certificate }
+    requires ends { EndsByGap certificate }
     ensures { IfOk result (IsBetter game.now certificate) }
 {
-    let next = with_better_members(alloc, game, certificate, fineness)?;
+    let roomy = with_room(alloc, game, certificate)?;
+    let next = with_better_members(alloc, game, roomy, fineness)?;
     restarted(alloc, game, next)
 }
 
@@ -51,9 +56,16 @@ fn with_better_members(
 {
     law_game(game);
     let mut next = certificate;
-    visit_all(alloc, game, fineness, &mut next.nodes, &mut next.points)?;
+    visit_all(
+        alloc,
+        game,
+        fineness,
+        &next.gap,
+        &mut next.nodes,
+        &mut next.points,
+    )?;
     sweep_nodes(game, &mut next.nodes);
-    sweep_points(game, &mut next.points);
+    settle_points(alloc, game, &mut next.points)?;
     Ok(next.concluded(game))
 }
 
@@ -62,6 +74,7 @@ fn visit_all(
     alloc: Global,
     game: &Game,
     fineness: &Fineness,
+    gap: &Fraction,
     nodes: &mut NodeSet,
     points: &mut PointSet,
 ) -> Result<(), AllocError>
@@ -71,12 +84,12 @@ fn visit_all(
     ensures points { PointsGoOn game.now points.old.members points.new.members }
 {
     law_game(game);
-    let mut frontier = Frontier::of(alloc, game, *fineness)?;
+    let mut frontier = Frontier::of(alloc, game, *fineness, gap)?;
     explore(alloc, game, fineness.budget, &mut frontier, nodes, points)?;
     for s in 0..game.states() {
         visit_corner(alloc, game, s, nodes, points)?;
     }
-    go_back(alloc, game, &frontier.visited, nodes, points)
+    go_back(alloc, game, &frontier.visited, points)
 }
 
 /// Visits the belief that is sure of a state.
@@ -101,7 +114,7 @@ fn visit_corner(
     Ok(())
 }
 
-/// Visits the open beliefs, the one of greatest gap first, until none is open or the budget is used.
+/// Visits the open beliefs, the one of greatest bend first, until none is open or the budget is used.
 fn explore(
     alloc: Global,
     game: &Game,
@@ -149,28 +162,47 @@ fn visit_open(
     Ok(())
 }
 
-/// Whether a belief has a weight for each state of a game.
-fn is_of_game(game: &Game, belief: &Belief) -> bool
-    ensures { IsTrue result → BeliefFits game.now belief.now }
-{
-    belief.parts().len() == game.states() as usize
-}
-
 /// Visits beliefs once more for points, from the last to the first.
 fn go_back(
     alloc: Global,
     game: &Game,
     beliefs: &[Belief],
-    nodes: &NodeSet,
     points: &mut PointSet,
 ) -> Result<(), AllocError>
-    requires nodes { AreNodes game.now nodes.now.members }
     requires points { ArePoints game.now points.old.members }
     ensures { PointsGoOn game.now points.old.members points.new.members }
 {
     let count = beliefs.len();
     for i in 0..count {
-        visit_again(alloc, game, &beliefs[count - 1 - i], nodes, points)?;
+        visit_again(alloc, game, &beliefs[count - 1 - i], points)?;
+    }
+    Ok(())
+}
+
+/// Sweeps the points, visits the belief of each of them once more, and sweeps them again.
+fn settle_points(alloc: Global, game: &Game, points: &mut PointSet) -> Result<(), AllocError>
+    requires points { ArePoints game.now points.old.members }
+    ensures { IfOk result (λ _. PointsGoOn game.now points.old.members points.new.members) }
+{
+    law_game(game);
+    sweep_points(game, points);
+    visit_members(alloc, game, points)?;
+    sweep_points(game, points);
+    Ok(())
+}
+
+/// Visits the belief of each point for a point, from the last to the first.
+fn visit_members(alloc: Global, game: &Game, points: &mut PointSet) -> Result<(), AllocError>
+    requires points { ArePoints game.now points.old.members }
+    ensures { PointsGoOn game.now points.old.members points.new.members }
+{
+    let count = points.len();
+    for i in 0..count {
+        let number = count - 1 - i;
+        if number < points.len() {
+            let belief = points.point(number).belief.copied();
+            visit_again(alloc, game, &belief, points)?;
+        }
     }
     Ok(())
 }
@@ -180,15 +212,13 @@ fn visit_again(
     alloc: Global,
     game: &Game,
     belief: &Belief,
-    nodes: &NodeSet,
     points: &mut PointSet,
 ) -> Result<(), AllocError>
-    requires nodes { AreNodes game.now nodes.now.members }
     requires points { ArePoints game.now points.old.members }
     ensures { PointsGoOn game.now points.old.members points.new.members }
 {
     if is_of_game(game, belief) {
-        visit_points(alloc, game, belief, nodes, points)?;
+        visit_points(alloc, game, belief, points)?;
     }
     Ok(())
 }

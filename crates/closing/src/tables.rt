@@ -2,12 +2,15 @@
 
 use crate::fixed::{normal_part, word};
 use crate::sums::{ratio, total_of};
-use game_model::MOST_STATES;
+use game_model::{Game, MOST_STATES};
 use point_set::{Point, PointSet};
 use std::alloc::{AllocError, Global};
 
+/// A number for each state.
+pub type Heights = [i64; MOST_STATES];
+
 /// How many bits the total of the parts of a belief has.
-const PART_BITS: u32 = 26;
+pub const PART_BITS: u32 = 26;
 
 /// How many more bits one has.
 const LESS_BITS: u32 = 14;
@@ -22,14 +25,27 @@ const UNIT_COST: i128 = 256;
 #[derive(Clone, Copy)]
 struct Row {
     /// The belief, in parts of 2^26.
-    parts: [i64; MOST_STATES],
+    parts: Heights,
     /// What a unit of mass costs.
     cost: i64,
+    /// The total of the belief.
+    total: i64,
+}
+
+/// A plane, and the greatest total of the points that are looked for below it.
+#[derive(Clone, Copy)]
+pub struct Plane {
+    /// By state, what a unit of its mass costs.
+    pub heights: Heights,
+    /// A point of a greater total is left out.
+    pub most_total: i64,
 }
 
 /// Points in order.
 #[derive(Drop)]
 pub struct PointTable {
+    /// How many states there are.
+    states: usize,
     rows: Vec<Row>,
     /// Costs are units times 256 over this.
     divisor: i128,
@@ -41,13 +57,17 @@ impl PointTable {
     /// # Errors
     ///
     /// Where no memory is to be had.
-    pub fn of(alloc: Global, points: &PointSet) -> Result<PointTable, AllocError> {
+    pub fn of(alloc: Global, game: &Game, points: &PointSet) -> Result<PointTable, AllocError> {
         let divisor = ratio(greatest_cost(points), MOST_COST).saturating_add(1);
         let mut rows = Vec::with_capacity(alloc, points.len() as usize)?;
         for k in 0..points.len() {
             rows.push(row_of(points.point(k), divisor))?;
         }
-        Ok(PointTable { rows, divisor })
+        Ok(PointTable {
+            states: game.states() as usize,
+            rows,
+            divisor,
+        })
     }
 
     /// What a unit of the mass of a point costs, and 0 where there is no such point.
@@ -63,28 +83,58 @@ impl PointTable {
         ratio(i128::from(cost).saturating_mul(self.divisor), UNIT_COST)
     }
 
-    /// The first point that lies the most below a plane, where one lies below it by a unit or more.
-    pub fn lowest(&self, plane: &[i64]) -> Option<u32> {
-        let mut least = self.step();
-        let mut found = None;
+    /// The four points that lie the most below a plane, the first of equal ones first, where they lie below it by a unit
+    /// or more.
+    pub fn lowest(&self, plane: &Plane) -> Lowest {
+        let none = Below {
+            above: self.step(),
+            point: None,
+        };
+        let mut lowest = Lowest { points: [none; 4] };
         for (k, row) in self.rows.iter().enumerate() {
-            let above = row.above(plane);
-            if above < least {
-                least = above;
-                found = u32::try_from(k).ok();
+            let above = row.above(plane, self.states);
+            if above < lowest.points[3].above {
+                lowest.insert(above, u32::try_from(k).ok());
             }
         }
-        found
+        lowest
     }
 
-    /// The first point that is nearest to a mass, where the parts of both, of 2^26 in all, differ by less than this.
-    pub fn nearest(&self, mass: &[i128], near: i64) -> Option<u32> {
+    /// The parts of a point of 2^26 in all, and 0 where there is no such point.
+    pub fn parts(&self, k: u32) -> Heights {
+        match self.rows.get(k as usize) {
+            Some(row) => row.parts,
+            None => [0; MOST_STATES],
+        }
+    }
+
+    /// How much a point lies above a plane; a negative number where it lies below, and 0 where it is left out.
+    pub fn above(&self, k: u32, plane: &Plane) -> i64 {
+        match self.rows.get(k as usize) {
+            Some(row) => row.above(plane, self.states),
+            None => 0,
+        }
+    }
+
+    /// What a point takes off a row, and 0 where it is left out.
+    pub fn taken(&self, k: u32, row: &Plane) -> i64 {
+        match self.rows.get(k as usize) {
+            Some(point) if point.total <= row.most_total => {
+                0i64.wrapping_sub(point.weighed(&row.heights, self.states))
+            }
+            _ => 0,
+        }
+    }
+
+    /// The first point of at most a total that is nearest to a mass, where the parts of both, of 2^26 in all, differ by
+    /// less than this.
+    pub fn nearest(&self, mass: &[i128], near: i64, most_total: i128) -> Option<u32> {
         let parts = parts_of(mass, total_of(mass));
         let mut least = near;
         let mut found = None;
         for (k, row) in self.rows.iter().enumerate() {
             let distance = row.distance(&parts);
-            if distance < least {
+            if distance < least && i128::from(row.total) <= most_total {
                 least = distance;
                 found = u32::try_from(k).ok();
             }
@@ -93,24 +143,65 @@ impl PointTable {
     }
 
     /// A point has to lie above a plane by less than this negative number, to lie below it by a unit.
-    fn step(&self) -> i64 {
+    pub fn step(&self) -> i64 {
         let unit = word(ratio(UNIT_COST, self.divisor).max(1));
         0i64.wrapping_sub(unit)
     }
 }
 
+/// A point, where there is one, with how much it lies above a plane.
+#[derive(Clone, Copy)]
+pub struct Below {
+    pub above: i64,
+    pub point: Option<u32>,
+}
+
+/// The points that lie the most below a plane.
+#[derive(Clone, Copy)]
+pub struct Lowest {
+    pub points: [Below; 4],
+}
+
+impl Lowest {
+    /// The first of them, where there is one.
+    pub fn first(&self) -> Option<u32> {
+        self.points[0].point
+    }
+
+    /// Puts a point into its place.
+    fn insert(&mut self, above: i64, point: Option<u32>) {
+        let mut found = Below { above, point };
+        for place in &mut self.points {
+            if found.above < place.above {
+                let other = *place;
+                *place = found;
+                found = other;
+            }
+        }
+    }
+}
+
 impl Row {
-    /// How much a point lies above a plane; a negative number where it lies below.
-    fn above(&self, plane: &[i64]) -> i64 {
+    /// How much a point lies above a plane; a negative number where it lies below, and 0 where it is left out.
+    fn above(&self, plane: &Plane, states: usize) -> i64 {
+        if self.total <= plane.most_total {
+            self.cost.wrapping_sub(self.weighed(&plane.heights, states))
+        } else {
+            0
+        }
+    }
+
+    /// The sum of the parts times numbers.
+    fn weighed(&self, heights: &Heights, states: usize) -> i64 {
         let mut sum: i64 = 0;
-        for (part, height) in self.parts.iter().zip(plane) {
+        for (part, height) in self.parts.iter().zip(heights).take(states) {
             sum = sum.wrapping_add(part.wrapping_mul(*height));
         }
-        self.cost.wrapping_sub(sum >> PART_BITS)
+        sum >> PART_BITS
     }
 
     /// How much the parts differ from others in all.
-    fn distance(&self, parts: &[i64; MOST_STATES]) -> i64 {
+    fn distance(&self, parts: &Heights) -> i64 {
         let mut sum: i64 = 0;
         for (part, other) in self.parts.iter().zip(parts) {
             let more = part.wrapping_sub(*other);
@@ -140,11 +231,12 @@ fn row_of(point: &Point, divisor: i128) -> Row {
     Row {
         parts: parts_of(point.belief.parts(), point.belief.total()),
         cost: word(ratio(cost_of(point), divisor)),
+        total: word(point.belief.total()),
     }
 }
 
 /// Weights of this total as parts of 2^26.
-fn parts_of(weights: &[i128], total: i128) -> [i64; MOST_STATES] {
+fn parts_of(weights: &[i128], total: i128) -> Heights {
     let mut parts = [0; MOST_STATES];
     for (part, weight) in parts.iter_mut().zip(weights) {
         *part = word(normal_part(*weight, total) >> LESS_BITS);

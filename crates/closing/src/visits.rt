@@ -3,16 +3,18 @@
 ghost use Rattle.alpha_set.specs.Nodes.{IsMix};
 ghost use Rattle.closing.specs.Better.{AreNodes, ArePoints, NodesGoOn, PointsGoOn};
 ghost use Rattle.closing.specs.Seen.{IsSeen};
-ghost use Rattle.stage_game.specs.Asked.{BeliefFits};
+ghost use Rattle.stage_game.specs.Asked.{BeliefFits, PointsServe};
 ghost use Rattle.stage_game.specs.Fits.{MixesFit};
 ghost use Rattle.std.specs.Prelude.{IfOk};
 
+use crate::hulls::Hull;
 use crate::keeps::{keep_node, keep_point};
 use crate::matching::{matched_node, matched_point};
+use crate::sums::product;
 use alpha_set::NodeSet;
 use belief::{Belief, Mixes};
 use game_model::{Game, law_game};
-use point_set::PointSet;
+use point_set::{Point, PointSet};
 use std::alloc::{AllocError, Global};
 
 /// How both players would play at a belief.
@@ -45,7 +47,7 @@ pub fn visit(
 {
     law_game(game);
     let informed = visit_nodes(alloc, game, belief, nodes, points)?;
-    let own = visit_points(alloc, game, belief, nodes, points)?;
+    let own = visit_points(alloc, game, belief, points)?;
     Ok(Seen { informed, own })
 }
 
@@ -74,17 +76,27 @@ pub fn visit_points(
     alloc: Global,
     game: &Game,
     belief: &Belief,
-    nodes: &NodeSet,
     points: &mut PointSet,
 ) -> Result<Vec<i128>, AllocError>
     requires belief { BeliefFits game.now belief.now }
-    requires nodes { AreNodes game.now nodes.now.members }
     requires points { ArePoints game.now points.old.members }
     ensures points { PointsGoOn game.now points.old.members points.new.members }
     ensures own { IfOk result (λ own. IsMix game.now.shape.own_actions own.items) }
 {
     law_game(game);
-    let (own, point) = matched_point(alloc, game, belief, nodes, points)?;
-    keep_point(game, points, point)?;
+    let mut hull = Hull::of(alloc, game, points)?;
+    let (own, point) = matched_point(alloc, game, belief, points, &mut hull)?;
+    if is_lower(game, points, &mut hull, &point) {
+        keep_point(game, points, point)?;
+    }
     Ok(own)
+}
+
+/// Whether a point lies below all divisions of its belief among the points of a hull, by a unit or more.
+fn is_lower(game: &Game, points: &PointSet, hull: &mut Hull, point: &Point) -> bool
+    requires { PointsServe game.now points.now.members }
+{
+    let parts = point.belief.parts();
+    let heights = hull.divide(game, points, 0, parts);
+    point.value.saturating_add(point.belief.total()) <= product(parts, &heights)
 }

@@ -150,10 +150,7 @@ fn push_wishes_after(
     let mut places = [0; MOST_STATES];
     let next = &mut places[..states];
     mass(game, belief, mixes, a, o, next);
-    weights.fill(0);
-    let pair = pair_place(game, a, o);
-    hull.divide(game, points, pair, next);
-    hull.weigh(pair, weights);
+    hull.split(game, points, pair_place(game, a, o), next, weights);
     scale_down(weights);
     let mut numbers = [0; MOST_STATES];
     let corners = &mut numbers[..states];
