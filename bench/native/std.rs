@@ -55,3 +55,13 @@ impl Vec<u8> { pub fn write_fmt(&mut self, a: std::fmt::Arguments) -> Result<(),
 impl<T> Vec<T> { pub fn allocator(&self) -> &Global { &Global } pub fn as_slice(&self) -> &[T] { &self.0 } pub fn as_mut_slice(&mut self) -> &mut [T] { &mut self.0 } }
 impl<T: Clone> Vec<T> { pub fn clone(&self) -> Result<Vec<T>, AllocError> { Ok(Vec(self.0.clone())) } }
 impl<T> Vec<T> { pub fn reserve_exact(&mut self, n: usize) -> Result<(), AllocError> { self.0.reserve_exact(n); Ok(()) } }
+/// Counts the calls of a part of the work, and its time, apart from the rest. One thread alone may call it.
+pub fn timed<R>(work: impl FnOnce() -> R) -> R {
+    let start = std::time::Instant::now();
+    let done = work();
+    CALLS.fetch_add(1, std::sync::atomic::Ordering::Relaxed);
+    NANOSECONDS.fetch_add(start.elapsed().as_nanos() as u64, std::sync::atomic::Ordering::Relaxed);
+    done
+}
+pub static CALLS: std::sync::atomic::AtomicU64 = std::sync::atomic::AtomicU64::new(0);
+pub static NANOSECONDS: std::sync::atomic::AtomicU64 = std::sync::atomic::AtomicU64::new(0);

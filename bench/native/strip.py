@@ -15,8 +15,16 @@ TOP = pathlib.Path(__file__).resolve().parents[2]
 HERE = pathlib.Path(__file__).resolve().parent
 CRATES = [
     "scaled_num", "text_words", "game_model", "belief", "alpha_set", "point_set", "controller", "simplex", "stage_game",
-    "backup", "closing", "cert_text", "game_text",
+    "backup", "hsvi_trial", "closing", "cert_text", "game_text",
 ]
+# Programs, by name: where their source stands, and the crates that they call.
+DRIVERS = {
+    "closer": (HERE / "closer.rs", ["game_text", "cert_text", "closing"]),
+    "stager": (
+        TOP / "bench" / "stage" / "stager.rs",
+        ["game_text", "cert_text", "controller", "scaled_num", "simplex", "belief", "alpha_set", "point_set", "stage_game", "backup", "hsvi_trial", "game_model"],
+    ),
+}
 # Each pattern begins a piece whose last character is an open brace; the piece goes up to the brace that closes it.
 BLOCKS = [
     r"^impl(<[^>]*>)? Model for [^{]*\{",
@@ -37,6 +45,7 @@ CHANGES = [
     (r"format!\(in alloc; (.*)\)$", r"rattle_std::text(format!(\1))"),
     (r"\.collect\(alloc\)", ".collect_in(alloc)"),
     (r": Drop\b", ""),
+    (r"solver\.run\(&program, MOST_PIVOTS\)", r"rattle_std::timed(|| solver.run(&program, MOST_PIVOTS))"),
 ]
 
 
@@ -95,7 +104,7 @@ def main():
     if len(sys.argv) != 2:
         sys.exit(__doc__)
     folder = pathlib.Path(sys.argv[1])
-    members = ", ".join(f'"{name}"' for name in [*CRATES, "rattle_std", "closer"])
+    members = ", ".join(f'"{name}"' for name in [*CRATES, "rattle_std", *DRIVERS])
     write(folder / "Cargo.toml", f'[workspace]\nresolver = "2"\nmembers = [{members}]\n[profile.release]\ndebug = 1\n')
     listed = dict(line.split(":") for line in (TOP / "crates.txt").read_text().splitlines() if ":" in line)
     for name in CRATES:
@@ -108,8 +117,9 @@ def main():
             write(folder / name / "src" / f"{source.stem}.rs", stripped(source.read_text()))
     write(folder / "rattle_std" / "Cargo.toml", package("rattle_std", []))
     write(folder / "rattle_std" / "src" / "lib.rs", (HERE / "std.rs").read_text())
-    write(folder / "closer" / "Cargo.toml", package("closer", ["rattle_std", "game_text", "cert_text", "closing"]))
-    write(folder / "closer" / "src" / "main.rs", (HERE / "closer.rs").read_text())
+    for name, (source, libraries) in DRIVERS.items():
+        write(folder / name / "Cargo.toml", package(name, ["rattle_std", *libraries]))
+        write(folder / name / "src" / "main.rs", source.read_text())
 
 
 if __name__ == "__main__":

@@ -7,13 +7,21 @@ use game_text::print;
 use hsvi_draw::Draw;
 use std::test::Fail;
 
+/// The checksum of no text.
+const NO_TEXT: u64 = 0xcbf2_9ce4_8422_2325;
+
 /// The checksum of some bytes, and of a text after them (FNV-1a of 64 bits).
-fn checksum(before: u64, text: &[u8]) -> u64 {
+fn summed(before: u64, text: &[u8]) -> u64 {
     let mut sum = before;
     for byte in text {
         sum = (sum ^ u64::from(*byte)).wrapping_mul(0x100_0000_01b3);
     }
     sum
+}
+
+/// The checksum of a text.
+pub fn checksum(text: &[u8]) -> u64 {
+    summed(NO_TEXT, text)
 }
 
 #[test]
@@ -58,12 +66,12 @@ fn a_generated_game_has_its_text(rt: HostRuntime) -> Result<(), Fail> {
 
 #[test]
 fn generated_games_have_the_texts_of_an_independent_generator(rt: HostRuntime) -> Result<(), Fail> {
-    let mut sum = 0xcbf2_9ce4_8422_2325;
+    let mut sum = NO_TEXT;
     for number in 1..21 {
         for size in 3..9 {
             let game = make(rt.alloc(), number, size)?;
             let text = print(rt.alloc(), &game)?;
-            sum = checksum(sum, &text);
+            sum = summed(sum, &text);
         }
     }
     assert_eq!(rt; sum, 4_635_163_748_062_023_463);

@@ -3,6 +3,8 @@
 #![tactic(auto)]
 
 #[cfg(test)]
+mod advised;
+#[cfg(test)]
 mod beliefs;
 #[cfg(test)]
 mod blocks;
@@ -30,6 +32,8 @@ mod seeds;
 mod solvers;
 #[cfg(test)]
 mod stages;
+#[cfg(test)]
+mod told;
 #[cfg(test)]
 mod visits;
 #[cfg(test)]

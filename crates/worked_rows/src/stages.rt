@@ -13,8 +13,10 @@ ghost use Rattle.stage_game.specs.Fits.{MixesFit};
 ghost use Rattle.std.specs.List.{AllByRecursion};
 ghost use Rattle.std.specs.Prelude.{IfOk, IfSome, OnOk, pos, ℕ, ◌*ℤ◌, ◌<◌, ◌≡◌};
 
+use crate::advised::SURE_AT_FIRST;
 use crate::nodes::node_with;
 use crate::points::plain_point;
+use crate::told::{game_of, program_told};
 use alpha_set::NodeSet;
 use backup::seed;
 use belief::{Belief, Mixes};
@@ -23,6 +25,7 @@ use point_set::PointSet;
 use simplex::Program;
 use stage_game::{lower_candidates, lower_program, upper_candidates, upper_program};
 use std::alloc::{AllocError, Global};
+use std::test::Fail;
 
 /// One state, two actions of each player and these rewards by own and informed action.
 fn one_state(alloc: Global, rewards: &[i128], discount: (i128, i128)) -> Result<Game, GameFault> {
@@ -86,7 +89,7 @@ fn has_rows(program: &Program, rows: &[&[i128]]) -> bool {
 }
 
 /// The lower candidates at the first belief of a game.
-fn lower_of(
+pub fn lower_of(
     alloc: Global,
     game: &Game,
     nodes: &NodeSet,
@@ -101,7 +104,7 @@ fn lower_of(
 }
 
 /// The upper candidates at the first belief of a game.
-fn upper_of(
+pub fn upper_of(
     alloc: Global,
     game: &Game,
     points: &PointSet,
@@ -275,6 +278,45 @@ fn the_programs_of_a_game_that_pays_nothing_are_scaled_to_a_width_of_1(rt: HostR
         &[0, 1, 1, 0, 0],
     ];
     assert!(rt; is_program(&upper, &upper_rows, &[0, 0, 0, 0, 1], &[128, 0, 0, 0, 0]));
+}
+
+/// `bench/stage/model.py` made the wanted programs.
+#[test]
+fn programs_at_a_corner_count_its_state_alone(rt: HostRuntime) -> Result<(), Fail> {
+    let game = game_of(rt.alloc(), SURE_AT_FIRST).expect(&rt, "a game");
+    let lower = program_told(rt.alloc(), &lower_of_seeds(rt.alloc(), &game, 5)?)?;
+    let wanted_lower = "row 1 0 -10 -5 -5 -5 0 0 -5 -5 0 0
+row 1 0 -5 -10 -5 -5 0 0 -5 -5 0 0
+row 0 1 -16 -5 0 0 -5 -5 0 0 -5 -5
+row 0 1 -5 -16 0 0 -5 -5 0 0 -5 -5
+row 0 0 -1 0 1 1 0 0 0 0 0 0
+row 0 0 -1 0 0 0 1 1 0 0 0 0
+row 0 0 0 -1 0 0 0 0 1 1 0 0
+row 0 0 0 -1 0 0 0 0 0 0 1 1
+row 0 0 1 1 0 0 0 0 0 0 0 0
+limits 0 0 0 0 0 0 0 0 1
+goal 32 0 0 0 0 0 0 0 0 0 0 0
+";
+    assert_eq!(rt; lower.as_str(), wanted_lower);
+    let upper = program_told(rt.alloc(), &upper_of_seeds(rt.alloc(), &game, 5)?)?;
+    let wanted_upper = "row 1 0 -11 -6 -8 -8 0 0 -16 0 0 0
+row 1 0 -6 -11 -16 0 0 0 0 -16 0 0
+row 0 1 -16 -6 0 0 0 -16 0 0 0 -16
+row 0 1 -6 -16 0 0 0 -16 0 0 -8 -8
+row 0 0 -25 0 32 0 0 0 0 0 0 0
+row 0 0 -30 0 0 32 0 0 0 0 0 0
+row 0 0 -25 0 0 0 32 0 0 0 0 0
+row 0 0 -30 0 0 0 0 32 0 0 0 0
+row 0 0 0 -25 0 0 0 0 32 0 0 0
+row 0 0 0 -30 0 0 0 0 0 32 0 0
+row 0 0 0 -25 0 0 0 0 0 0 32 0
+row 0 0 0 -30 0 0 0 0 0 0 0 32
+row 0 0 1 1 0 0 0 0 0 0 0 0
+limits 0 0 0 0 0 0 0 0 0 0 0 0 1
+goal 32 0 0 0 0 0 0 0 0 0 0 0
+";
+    assert_eq!(rt; upper.as_str(), wanted_upper);
+    Ok(())
 }
 
 /// The mixes of the only informed action of two states.
