@@ -5,7 +5,8 @@
 
 For profiles and experiments alone: what it builds has no proof, no checks of overflow, and aborts for want of memory. It
 runs `close` on a game and a certificate in some seconds after an edit, where the proof of the same edit takes minutes.
-FOLDER/target/release/closer [ROUNDS] reads both from standard input and writes the certificate.
+FOLDER/target/release/closer [ROUNDS] reads both from standard input and writes the certificate. FOLDER/target/release/stager
+measures stage programs, advice and visits (bench/stage); for it each run of the simplex is timed apart.
 """
 import pathlib
 import re

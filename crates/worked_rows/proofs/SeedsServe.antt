@@ -125,3 +125,13 @@ both-states P first second (suc (suc s)) l = absurd (omega arith)
 -- mixes that surely play one action
 pub only-fit : (g : GameData) (choice : List ℕ) → length choice ≡ g.shape.states → AllByRecursion (λ chosen. chosen < g.shape.informed_actions) choice → MixesFit g (pure_mixes g choice)
 only-fit g choice long right = record { states = refl; actions = refl; right = pure-mixes g choice long right }
+
+-- a set with a new member still serves
+pub nodes-kept : (g : GameData) (nodes : List NodeData) (node : NodeData) → length nodes ≤ most_nodes → NodesServe g nodes → NodeFits g (length nodes) node → NodesServe g (nodes ++ node ∷ [])
+nodes-kept g nodes node few serve fits = node-behind g nodes node serve.fit (node-more g (length nodes) most_nodes node few fits)
+
+pub points-kept : (g : GameData) (points : List PointData) (point : PointData) → length points ≤ most_points → PointsServe g points → PointFits g (length points) point → PointsServe g (points ++ point ∷ [])
+points-kept g points point few serve fits = record {
+  corners = λ s l. corner-kept points point s (serve.corners s l);
+  fit = each-append (PointFits g most_points) points (point ∷ []) serve.fit (fits-more g (length points) most_points point few fits, tt);
+}
