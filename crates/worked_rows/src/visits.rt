@@ -37,7 +37,7 @@ fn visit(
     requires room { HasRooms game.now solver.old }
     requires nodes { NodesServe game.now nodes.old.members }
     requires points { PointsServe game.now points.old.members }
-    ensures room { HasRooms game.now solver.new }
+    ensures room { OnOk result (HasRooms game.now solver.new) }
     ensures nodes { OnOk result (NodesServe game.now nodes.new.members) }
     ensures points { OnOk result (PointsServe game.now points.new.members) }
 {
@@ -48,7 +48,10 @@ fn visit(
     let mut text = lower_told(alloc, &lower, &node)?;
     text.push_str(&upper_told(alloc, &upper, &point)?)?;
     let _counts = (nodes.len(), points.len());
-    let (Ok(_), Ok(_)) = (nodes.push(node), points.push(point)) else {
+    let Ok(_) = nodes.push(node) else {
+        return Err(AllocError);
+    };
+    let Ok(_) = points.push(point) else {
         return Err(AllocError);
     };
     Ok(text)
