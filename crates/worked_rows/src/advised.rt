@@ -9,7 +9,7 @@ use crate::visits::{solver_of, visited};
 use backup::{new_node, new_point};
 use belief::Belief;
 use game_gen::make;
-use game_model::{Game, law_game};
+use game_model::{Game, GameBuilder, GameFault, Shape, law_game};
 use stage_game::{lower_advice, upper_advice};
 use std::alloc::{AllocError, Global};
 use std::test::Fail;
@@ -386,5 +386,47 @@ fn upper_advice_is_read_at_each_of_the_three_ends(rt: HostRuntime) -> Result<(),
             11_283_687_890_809_733_103
         )
     );
+    Ok(())
+}
+
+/// As much of everything as a game may have, and nothing follows. Player one is paid 3 where state and actions sum to a
+/// multiple of 6, and pays 1 else.
+fn greatest(alloc: Global) -> Result<Game, GameFault> {
+    let shape = Shape {
+        states: 16,
+        own_actions: 6,
+        informed_actions: 6,
+        observations: 8,
+        row_total: 1,
+        discount: (0, 1),
+    };
+    let mut builder = GameBuilder::new(alloc, shape, &[1; 16])?;
+    for place in 0..16 * 36 {
+        let (s, a, c) = (place / 36, place / 6 % 6, place % 6);
+        builder.step(if (s + a + c) % 6 == 0 { 3 } else { -1 })?;
+        builder.landing((s + a) % 8, (s + c) % 16, 1)?;
+    }
+    builder.finish()
+}
+
+#[test]
+fn lower_advice_at_the_greatest_sizes_mixes_all_actions(rt: HostRuntime) -> Result<(), Fail> {
+    let Ok(game) = greatest(rt.alloc()) else {
+        panic!(rt; "the game is refused");
+    };
+    let lower = lower_made(rt.alloc(), &game, 10)?;
+    let front = "end optimal\nown 10926 10922 10922 10922 10922 10922\n";
+    assert!(rt; is_summed(&lower, front, 16_241_788_914_935_650_591));
+    Ok(())
+}
+
+#[test]
+fn upper_advice_at_the_greatest_sizes_mixes_all_actions(rt: HostRuntime) -> Result<(), Fail> {
+    let Ok(game) = greatest(rt.alloc()) else {
+        panic!(rt; "the game is refused");
+    };
+    let upper = upper_made(rt.alloc(), &game, 10)?;
+    let front = "end optimal\nown 10926 10922 10922 10922 10922 10922\n";
+    assert!(rt; is_summed(&upper, front, 12_555_719_130_830_398_142));
     Ok(())
 }

@@ -2,7 +2,7 @@
 
 ghost use Rattle.backup.specs.Rooms.{HasRooms};
 ghost use Rattle.stage_game.specs.Asked.{NodesServe, PointsServe};
-ghost use Rattle.std.specs.Prelude.{IfOk, OnOk};
+ghost use Rattle.std.specs.Prelude.{IfOk, OnOk, ◌≤◌};
 
 use crate::generated::checksum;
 use crate::stages::seeds_of;
@@ -11,7 +11,7 @@ use alpha_set::NodeSet;
 use backup::{lower_visit, reserve_solver, upper_visit};
 use belief::Belief;
 use game_gen::make;
-use game_model::{Game, GameBuilder, GameFault, Shape, law_game};
+use game_model::{Game, law_game};
 use point_set::PointSet;
 use simplex::Solver;
 use std::alloc::{AllocError, Global};
@@ -68,52 +68,31 @@ pub fn visited(alloc: Global, game: &Game, count: u32) -> Result<String, AllocEr
     Ok(text)
 }
 
-/// The runs that the last visits take: on the lower side the first, the first, the first, the third, the fourth and the
-/// second, which goes on with a node that is not among the last; on the upper side the first, the first, the third, the
-/// fourth, the fourth and the first.
+/// Whether so many visits of the game of a number and a size make a text of this checksum in the end.
+fn is_made(alloc: Global, number: u64, size: u32, count: u32, sum: u64) -> Result<bool, AllocError>
+    requires least { 1 ≤ size }
+    requires most { size ≤ 16 }
+{
+    let game = make(alloc, number, size)?;
+    let text = visited(alloc, &game, count)?;
+    Ok(checksum(text.as_bytes()) == sum)
+}
+
+/// Where the first run is the best one, where the third one is on the upper side, and where the second one is on the
+/// lower side: there it goes on with a node that is not among the last.
 #[test]
-fn visits_of_generated_games_take_the_first_of_the_best_runs(rt: HostRuntime) -> Result<(), Fail> {
-    for (number, size, count, sum) in [
-        (1, 3, 1, 3_558_555_487_125_284_965),
-        (4, 3, 1, 17_915_351_921_196_392_504),
-        (5, 5, 1, 14_980_520_274_112_980_940),
-        (3, 6, 1, 89_944_677_015_740_638),
-        (2, 8, 1, 2_929_276_296_258_562_886),
-        (2, 4, 16, 3_270_879_355_046_942_762),
-    ] {
-        let game = make(rt.alloc(), number, size)?;
-        let text = visited(rt.alloc(), &game, count)?;
-        assert_eq!(rt; checksum(text.as_bytes()), sum, "game {number} of {size}");
-    }
+fn visits_of_small_games_take_the_first_of_the_best_runs(rt: HostRuntime) -> Result<(), Fail> {
+    let alloc = rt.alloc();
+    assert!(rt; is_made(alloc, 1, 3, 1, 3_558_555_487_125_284_965)?);
+    assert!(rt; is_made(alloc, 4, 3, 1, 17_915_351_921_196_392_504)?);
+    assert!(rt; is_made(alloc, 5, 5, 1, 14_980_520_274_112_980_940)?);
+    assert!(rt; is_made(alloc, 2, 4, 16, 3_270_879_355_046_942_762)?);
     Ok(())
 }
 
-/// As much of everything as a game may have, and nothing follows. Player one is paid 3 where state and actions sum to a
-/// multiple of 6, and pays 1 else.
-fn greatest(alloc: Global) -> Result<Game, GameFault> {
-    let shape = Shape {
-        states: 16,
-        own_actions: 6,
-        informed_actions: 6,
-        observations: 8,
-        row_total: 1,
-        discount: (0, 1),
-    };
-    let mut builder = GameBuilder::new(alloc, shape, &[1; 16])?;
-    for place in 0..16 * 36 {
-        let (s, a, c) = (place / 36, place / 6 % 6, place % 6);
-        builder.step(if (s + a + c) % 6 == 0 { 3 } else { -1 })?;
-        builder.landing((s + a) % 8, (s + c) % 16, 1)?;
-    }
-    builder.finish()
-}
-
+/// The third run is the best one on the lower side, and the fourth one on the upper side.
 #[test]
-fn a_visit_of_a_game_of_the_greatest_sizes_mixes_all_actions(rt: HostRuntime) -> Result<(), Fail> {
-    let Ok(game) = greatest(rt.alloc()) else {
-        panic!(rt; "the game is refused");
-    };
-    let text = visited(rt.alloc(), &game, 1)?;
-    assert_eq!(rt; checksum(text.as_bytes()), 2_615_822_088_656_441_200);
+fn a_visit_tries_fewer_bits_where_runs_end_wide(rt: HostRuntime) -> Result<(), Fail> {
+    assert!(rt; is_made(rt.alloc(), 3, 6, 1, 89_944_677_015_740_638)?);
     Ok(())
 }
