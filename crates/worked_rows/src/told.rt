@@ -1,5 +1,7 @@
 //! Advice and members as text, in the form that `bench/stage/model.py` writes, and games from their texts.
 
+ghost use Rattle.std.specs.Prelude.{◌<◌};
+
 use alpha_set::Node;
 use belief::Mixes;
 use game_model::{Branch, Game};

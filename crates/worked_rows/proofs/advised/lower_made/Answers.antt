@@ -10,5 +10,6 @@ lower_advice-requires-clause-belief c =
 
 pub lower_advice-requires-clause-room : goal.lower_advice-requires-clause-room
 lower_advice-requires-clause-room c =
+    rw c.deref.ensures.value (
     lower-rooms c.in_ok-solver.solver c.args.game.now c.in_ok-nodes.nodes.members c.law_game.ensures.accepted c.in_ok-solver.ensures.lower
-    c.in_ok-candidates.candidates.items c.in_ok-candidates.ensures.serve
+    c.in_ok-candidates.candidates.items c.in_ok-candidates.ensures.serve)

@@ -10,8 +10,9 @@ upper_advice-requires-clause-belief c =
 
 pub upper_advice-requires-clause-room : goal.upper_advice-requires-clause-room
 upper_advice-requires-clause-room c =
+    rw c.deref.ensures.value (
     upper-rooms c.in_ok-solver.solver c.args.game.now c.in_ok-points.points.members c.law_game.ensures.accepted c.in_ok-solver.ensures.upper
-    c.in_ok-candidates.candidates.items c.in_ok-candidates.ensures.serve
+    c.in_ok-candidates.candidates.items c.in_ok-candidates.ensures.serve)
 
 pub new_point-requires-clause-belief : goal.new_point-requires-clause-belief
 new_point-requires-clause-belief c =

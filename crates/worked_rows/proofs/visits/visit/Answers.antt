@@ -38,5 +38,5 @@ returns-clause-nodes c =
 
 pub returns-clause-points : goal.returns-clause-points
 returns-clause-points c =
-    subst (PointsServe c.args.game.now) (sym c.in-Ok-2.ensures.added)
+    subst (PointsServe c.args.game.now) (sym c.in-Ok-push.ensures.added)
     (points-kept c.args.game.now c.args.points.now.members (point_data c.in_ok-upper.point) c.len-2.ensures.few c.requires.points c.in_ok-upper.ensures.fits)
