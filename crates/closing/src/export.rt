@@ -12,7 +12,7 @@ use std::alloc::{AllocError, Global};
 /// With more members of a side there is little room for others.
 const MOST_HELD: u32 = 900;
 
-/// The certificate itself where there is room for other members, and else its export.
+/// The certificate itself where nothing shall be dropped and there is room for other members, and else its export.
 ///
 /// # Errors
 ///
@@ -21,12 +21,13 @@ pub fn with_room(
     alloc: Global,
     game: &Game,
     certificate: Certificate,
+    drops: bool,
 ) -> Result<Certificate, AllocError>
     requires stands { CertificateStands game.now certificate }
     requires ends { EndsByGap certificate }
     ensures { IfOk result (IsBetter game.now certificate) }
 {
-    if is_nearly_full(&certificate) {
+    if drops || is_nearly_full(&certificate) {
         exported(alloc, game, &certificate)
     } else {
         Ok(certificate)

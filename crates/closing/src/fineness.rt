@@ -1,5 +1,6 @@
 //! How finely rounds tell beliefs apart, and how many they visit: coarsely and few at first, so that one visit serves
-//! many masses, and ever more finely and more of them.
+//! many masses, and ever more finely and more of them. And whether they drop members: as long as the bounds come nearer
+//! together, what the starts do not reach only takes time.
 
 use game_model::MIX_TOTAL;
 
@@ -32,6 +33,8 @@ pub struct Fineness {
     pub loss: i128,
     /// How many beliefs are visited at most on the way from the first one.
     pub budget: u32,
+    /// Whether members that the starts do not reach are dropped.
+    pub drops: bool,
 }
 
 impl Fineness {
@@ -42,6 +45,7 @@ impl Fineness {
             near: FIRST_NEAR,
             loss: FIRST_LOSS,
             budget: FIRST_BUDGET,
+            drops: true,
         }
     }
 
@@ -59,6 +63,7 @@ impl Fineness {
                 near: self.near - self.near / 4,
                 loss: self.loss,
                 budget,
+                drops: true,
             }
         } else {
             Fineness {
@@ -66,6 +71,7 @@ impl Fineness {
                 near: self.near / 4,
                 loss: self.loss / 2,
                 budget,
+                drops: false,
             }
         }
     }

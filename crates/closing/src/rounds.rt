@@ -21,10 +21,8 @@ use point_set::PointSet;
 use scaled_num::Fraction;
 use std::alloc::{AllocError, Global};
 
-/// What one round makes of a certificate: where there is little room, members that the starts do not reach are dropped.
-/// Then it visits the beliefs from the first one on, told apart so finely, those first where most is lost by a division
-/// among points, then the corners, then the visited beliefs once more for points, from the last to the first. Then all
-/// members are swept, the points visited and swept once more, and in the end the starts move to better members.
+/// What one round makes of a certificate: better members by visits from the first belief on, told apart so finely, then
+/// better points by a visit of each.
 ///
 /// # Errors
 ///
@@ -39,13 +37,48 @@ pub fn round(
     requires ends { EndsByGap certificate }
     ensures { IfOk result (IsBetter game.now certificate) }
 {
-    let roomy = with_room(alloc, game, certificate)?;
-    let next = with_better_members(alloc, game, roomy, fineness)?;
+    let next = visited(alloc, game, certificate, fineness)?;
+    settled(alloc, game, next, fineness)
+}
+
+/// The first half of a round: where members are dropped, those that the starts do not reach are. Then beliefs are visited
+/// from the first one on, those first where most is lost by a division among points, then the corners, then the visited
+/// beliefs once more for points, from the last to the first. Then all members are swept, and the starts move to better
+/// ones.
+fn visited(
+    alloc: Global,
+    game: &Game,
+    certificate: Certificate,
+    fineness: &Fineness,
+) -> Result<Certificate, AllocError>
+    requires stands { CertificateStands game.now certificate }
+    requires ends { EndsByGap certificate }
+    ensures { IfOk result (IsBetter game.now certificate) }
+{
+    let roomy = with_room(alloc, game, certificate, fineness.drops)?;
+    let next = with_visits(alloc, game, roomy, fineness)?;
     restarted(alloc, game, next)
 }
 
-/// The certificate with the members that the visits and the sweeps of a round make of its own.
-fn with_better_members(
+/// The second half of a round: members are dropped as before the first one. Then the belief of each point is visited for
+/// a point, the points are swept, and the starts move to better members.
+fn settled(
+    alloc: Global,
+    game: &Game,
+    certificate: Certificate,
+    fineness: &Fineness,
+) -> Result<Certificate, AllocError>
+    requires stands { CertificateStands game.now certificate }
+    requires ends { EndsByGap certificate }
+    ensures { IfOk result (IsBetter game.now certificate) }
+{
+    let roomy = with_room(alloc, game, certificate, fineness.drops)?;
+    let next = with_settled_points(alloc, game, roomy)?;
+    restarted(alloc, game, next)
+}
+
+/// The certificate with the members that the visits of a round and sweeps make of its own.
+fn with_visits(
     alloc: Global,
     game: &Game,
     certificate: Certificate,
@@ -65,7 +98,23 @@ fn with_better_members(
         &mut next.points,
     )?;
     sweep_nodes(game, &mut next.nodes);
-    settle_points(alloc, game, &mut next.points)?;
+    sweep_points(game, &mut next.points);
+    Ok(next.concluded(game))
+}
+
+/// The certificate with the points that a visit of each and a sweep make of its own.
+fn with_settled_points(
+    alloc: Global,
+    game: &Game,
+    certificate: Certificate,
+) -> Result<Certificate, AllocError>
+    requires { CertificateStands game.now certificate }
+    ensures { IfOk result (IsBetter game.now certificate) }
+{
+    law_game(game);
+    let mut next = certificate;
+    visit_members(alloc, game, &mut next.points)?;
+    sweep_points(game, &mut next.points);
     Ok(next.concluded(game))
 }
 
@@ -176,18 +225,6 @@ fn go_back(
     for i in 0..count {
         visit_again(alloc, game, &beliefs[count - 1 - i], points)?;
     }
-    Ok(())
-}
-
-/// Sweeps the points, visits the belief of each of them once more, and sweeps them again.
-fn settle_points(alloc: Global, game: &Game, points: &mut PointSet) -> Result<(), AllocError>
-    requires points { ArePoints game.now points.old.members }
-    ensures { IfOk result (λ _. PointsGoOn game.now points.old.members points.new.members) }
-{
-    law_game(game);
-    sweep_points(game, points);
-    visit_members(alloc, game, points)?;
-    sweep_points(game, points);
     Ok(())
 }
 

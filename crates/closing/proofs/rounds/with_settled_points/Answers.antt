@@ -1,0 +1,28 @@
+use Rattle.controller.proofs.Places.{rules as rules_at}
+use Rattle.closing.proofs.BetterMembers.{members-fit, members-start, round-better, standing-nodes, standing-points}
+use Rattle.closing.proofs.GoOn.{nodes-same, points-through}
+use Rattle.closing.proofs.rounds.with_settled_points.Goals as goal
+
+pub visit_members-requires : goal.visit_members-requires
+visit_members-requires c = record { points = standing-points c.args.game.now _ (rw (← c.next.view_is) at c.requires) }
+
+pub concluded-requires-clause-fits : goal.concluded-requires-clause-fits
+concluded-requires-clause-fits c =
+    let stands = rw (← c.next.view_is) at c.requires in
+    let nodes = nodes-same c.args.game.now c.next.inside.nodes.members (standing-nodes c.args.game.now _ stands) in
+    let points = points-through c.args.game.now c.next.inside.points.members c.visit_members.new.points.members c.sweep_points.new.points.members c.in_ok-visit_members.ensures c.sweep_points.ensures in
+    members-fit c.args.game.now _ c.next.inside.nodes.members c.sweep_points.new.points.members stands.fits nodes.are points.are nodes.raised points.lowered
+
+pub concluded-requires-clause-start : goal.concluded-requires-clause-start
+concluded-requires-clause-start c =
+    let stands = rw (← c.next.view_is) at c.requires in
+    let points = points-through c.args.game.now c.next.inside.points.members c.visit_members.new.points.members c.sweep_points.new.points.members c.in_ok-visit_members.ensures c.sweep_points.ensures in
+    members-start c.args.game.now _ c.next.inside.nodes.members c.sweep_points.new.points.members stands.fits (rules_at c.args.game.now _ stands.holds).start points.lowered
+
+pub returns : goal.returns
+returns c =
+    let stands = rw (← c.next.view_is) at c.requires in
+    let nodes = nodes-same c.args.game.now c.next.inside.nodes.members (standing-nodes c.args.game.now _ stands) in
+    let points = points-through c.args.game.now c.next.inside.points.members c.visit_members.new.points.members c.sweep_points.new.points.members c.in_ok-visit_members.ensures c.sweep_points.ensures in
+    rw (← c.next.view_is)
+    (round-better c.args.game.now _ c.next.inside.nodes.members c.sweep_points.new.points.members c.concluded.result stands nodes.are points.are nodes.raised points.lowered c.concluded.ensures.fits c.concluded.ensures.concluded)
