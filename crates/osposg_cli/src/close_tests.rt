@@ -1,5 +1,6 @@
 //! Worked runs of `close` and of `simulate`, over a game and a certificate.
 use crate::Status;
+use crate::solve_tests::{GUESS_CERTIFICATE, THREE_SOLVED};
 use crate::start_tests::GUESS_THE_STATE;
 use crate::tests::{
     PENNIES, PENNIES_CERTIFICATE, THREE_CERTIFICATE, THREE_HALVED, answered, changed, joined, over,
@@ -22,6 +23,24 @@ fn a_closed_certificate_is_given_back(rt: HostRuntime) -> Result<(), Fail> {
     assert!(rt;
         answered(alloc, &["close", "--rounds=0"], input, &certificate)? == (Status::Done, true)
     );
+    Ok(())
+}
+
+#[test]
+fn bounds_within_the_gap_are_kept(rt: HostRuntime) -> Result<(), Fail> {
+    let alloc = rt.alloc();
+    let guess = text_of(alloc, &GUESS_CERTIFICATE)?;
+    let both = joined(alloc, &text_of(alloc, &GUESS_THE_STATE)?, &guess)?;
+    assert!(rt; answered(alloc, &["close"], both.as_bytes(), &guess)? == (Status::Done, true));
+    let game = text_of(alloc, &THREE_HALVED)?;
+    let solve = ["solve", "--gap=0/1", "--trials=5"].as_slice();
+    let (status, open) = over(alloc, solve, game.as_bytes(), (4096, &[]), (4096, &[]))?;
+    assert!(rt; status == Status::Open);
+    let mut input = Vec::from_slice(alloc, game.as_bytes())?;
+    input.extend_from_slice(&open)?;
+    let closed = text_of(alloc, &THREE_SOLVED)?;
+    let command = ["close", "--gap=1/65536"].as_slice();
+    assert!(rt; answered(alloc, command, &input, &closed)? == (Status::Done, true));
     Ok(())
 }
 

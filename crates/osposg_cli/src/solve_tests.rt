@@ -29,7 +29,7 @@ pub const FIVE_CERTIFICATE: [&str; 18] = [
 ];
 
 /// What `solve` makes of three halved with the tolerance 1/65536: its bounds are that far apart, and stay so.
-const THREE_SOLVED: [&str; 18] = [
+pub const THREE_SOLVED: [&str; 18] = [
     "certificate 1",
     "outcome closed",
     "gap 1/65536",
@@ -55,7 +55,7 @@ const THREE_SOLVED_YES: &str =
     "yes\nlower 393215/65536 5.999984\nupper 393216/65536 6.000000\ntail 393216/65536 6.000000\n";
 
 /// What `solve` makes of guess the state, without a trial.
-const GUESS_CERTIFICATE: [&str; 36] = [
+pub const GUESS_CERTIFICATE: [&str; 36] = [
     "certificate 1",
     "outcome closed",
     "gap 1/100",
