@@ -49,6 +49,9 @@ pub fn run<I: Source, O: Sink>(
     ensures write_fault { result ≡ Status.WriteFault → Rose (O.faults output.old) (O.faults output.new) }
     ensures reads_later { I.faults input.old ≤ I.faults input.new }
     ensures writes_later { O.faults output.old ≤ O.faults output.new }
+    // A run ends at the first fault: at any other end no read, and no write, has failed.
+    ensures reads_passed { ¬ (result ≡ Status.ReadFault) → I.faults input.new ≡ I.faults input.old }
+    ensures writes_passed { ¬ (result ≡ Status.WriteFault) → O.faults output.new ≡ O.faults output.old }
     // Where nothing is written, the sink is untouched.
     ensures unwritten { WritesNothing result →
         IsUntouched (O.written output.old) (O.written output.new) (O.faults output.old) (O.faults output.new) }
@@ -150,6 +153,7 @@ fn answer_to<I: Source>(alloc: Global, words: &[String], input: &mut I) -> Resul
     ensures early { IfErr result (λ status. IsEarly (named words.now) (I.left input.old) (I.left input.new) status) }
     ensures read_fault { IsErrOf result Status.ReadFault → Rose (I.faults input.old) (I.faults input.new) }
     ensures reads_later { I.faults input.old ≤ I.faults input.new }
+    ensures reads_passed { ¬ (IsErrOf result Status.ReadFault) → I.faults input.new ≡ I.faults input.old }
     ensures unread { ¬ (ReadsInput (named words.now)) →
         IsUntouched (I.left input.old) (I.left input.new) (I.faults input.old) (I.faults input.new) }
 {
