@@ -5,4 +5,9 @@ pub mod Standing
 pub mod Weighted
 pub mod LowerHalves
 pub mod UpperHalves
+pub mod Courses
+pub mod Matching
+pub mod Trees
+pub mod Machines
+pub mod MachinePlans
 pub mod Example

@@ -1,5 +1,5 @@
 -- What the draw among the start nodes earns.
-use Rattle.std.proofs.Common.{◌≡◌, ℕ, ◌+◌, ◌*◌, ◌≤◌, [], ◌∷◌, ap, arith, length, map, refl, sym, subst, ◌∙◌}
+use Rattle.std.proofs.Common.{◌≡◌, ℕ, ◌+◌, ◌*◌, ◌<◌, ◌≤◌, [], ◌∷◌, ap, arith, length, map, refl, sym, subst, ◌∙◌}
 use Rattle.std.proofs.lemmas.List.Sums.{sum_by-cons}
 use borrow.Author.Differences.{up}
 use Rattle.std.specs.Prelude.{ℤ, pos, ◌+ℤ◌, ◌*ℤ◌, ◌≤ℤ◌, ◌-ℤ◌, ◌^◌, List, sum_by, unsigned_abs}
@@ -15,13 +15,14 @@ use Rattle.controller.specs.Starts.{IsStart, most_from, weighted, weights_sum}
 use Rattle.controller.proofs.Places.{rules}
 use Rattle.game_model.specs.Branches.{mix_total}
 use Rattle.game_model.specs.Game.{GameData, first_at, numbers, span, unit}
-use Rattle.game_model.specs.Numbers.{RowsAreFull}
 use Rattle.game_model.specs.Plan.{InformedPlan, IsOwnPlan, OwnPlan}
 use Rattle.game_model.specs.Play.{pay}
+use Rattle.game_model.specs.Seeds.{KeepsSpan}
 use Rattle.game_model.proofs.Family.{family-lower}
 use Rattle.game_model.proofs.Mixed.{mixed_own-is_plan, pay-mixed_own}
 use Rattle.game_model.proofs.Pay.{each-from}
 use Rattle.history_model.specs.Halves.{LowerHalf, LowerHalfAt, OwnIsPlan, from_total, node_plan, start, start_item}
+use Rattle.history_model.specs.Starts.{StartNodesWeigh, StartsEarn, StartsEarnAt, starts_earn}
 use Rattle.history_model.proofs.Standing.{node-earns, node-plans, some_mix}
 use Rattle.history_model.proofs.Weighted.{NotNegative, weighted-is, weighted-least, weighted-swap, weights-sum}
 
@@ -98,37 +99,37 @@ drawn-least e x d m w n entry q t paid sum is h =
     ends : (a b c d : ℤ) → a ≤ℤ b → a ≡ c → b ≡ d → c ≤ℤ d
     ends a b c d h e f = omega (arith, sums)
 
-pub lower-half_at : (g : GameData) (k : CertificateData) → RowsAreFull (numbers g) → CertificateStands g k → LowerHalfAt g k
-lower-half_at g k full stands whole n s tau ls right =
+-- what the plans of the start nodes earn, each by its weight
+pub starts-earn_at : StartsEarnAt
+starts-earn_at g k keeps stands whole n s tau ls right =
+    weighted-least k.start_nodes (λ i. (nodes_of k.nodes i).vector s) (λ i. pay (numbers g) n s (node_plan k i n) tau) (pos unit)
+    (pos ((numbers g).discount_under ^ n)) (pos ((numbers g).discount_over ^ n * span g)) (pos (((numbers g).row_total * mix_total * whole) ^ n)) (from-some g k stands)
+    (each-from (IsStart (length k.nodes) (pos most_from)) _ k.start_nodes (λ start h. node-earns g k keeps.full stands whole n start.0 s tau h.0 ls right) stands.fits.starts.from.each)
+
+pub lower-half_at : (g : GameData) (k : CertificateData) → KeepsSpan (numbers g) (span g) → CertificateStands g k → LowerHalfAt g k
+lower-half_at g k keeps stands whole n s tau ls right =
     let x : ℕ = from_total k in
     let q : ℕ = (numbers g).discount_under ^ n in
     let t : ℕ = (numbers g).discount_over ^ n * span g in
     let w : ℕ = ((numbers g).row_total * mix_total * whole) ^ n in
-    let v = λ (i : ℕ). (nodes_of k.nodes i).vector s in
-    let p = λ (i : ℕ). pay (numbers g) n s (node_plan k i n) tau in
-    let each_earns : AllByRecursion (λ (start : ℕ × ℤ). ((v start.0 *ℤ pos q -ℤ pos t) *ℤ pos w) ≤ℤ (pos unit *ℤ p start.0)) k.start_nodes =
-    each-from (IsStart (length k.nodes) (pos most_from)) _ k.start_nodes (λ start h. node-earns g k full stands whole n start.0 s tau h.0 ls right) stands.fits.starts.from.each in
-    let earned = weighted-least k.start_nodes v p (pos unit) (pos q) (pos t) (pos w) (from-some g k stands) each_earns in
+    let entry = weighted k.start_nodes (λ i. (nodes_of k.nodes i).vector s) in
     let tails : x * (numbers g).discount_over ^ n * span g ≡ x * t = omega arith in
     rw tails
-    (drawn-least unit x (numbers g).row_total mix_total whole n (weighted k.start_nodes v) (pos q) (pos t) (pay (numbers g) n s (start k n) tau) (weighted k.start_nodes p)
+    (drawn-least unit x (numbers g).row_total mix_total whole n entry (pos q) (pos t) (pay (numbers g) n s (start k n) tau) (starts_earn g k n s tau)
     (pay-start g k stands n s tau)
-    (subst (λ (y : ℤ). ((weighted k.start_nodes v *ℤ pos q -ℤ y *ℤ pos t) *ℤ pos w) ≤ℤ (pos unit *ℤ weighted k.start_nodes p)) (sym (from-sum g k stands)) earned))
+    (subst (λ (y : ℤ). ((entry *ℤ pos q -ℤ y *ℤ pos t) *ℤ pos w) ≤ℤ (pos unit *ℤ starts_earn g k n s tau)) (sym (from-sum g k stands)) (starts-earn_at g k keeps stands whole n s tau ls right)))
 
-pub lower-half : (g : GameData) (k : CertificateData) → RowsAreFull (numbers g) → CertificateStands g k → LowerHalf g k
-lower-half g k full stands whole n family right =
-    let x : ℕ = from_total k in
-    let q : ℕ = (numbers g).discount_under ^ n in
-    let t : ℕ = x * (numbers g).discount_over ^ n * span g in
-    let y : ℕ = ((numbers g).row_total * (x * mix_total) * whole) ^ n in
-    let r = rules g k stands.holds in
+-- ---- over the first states
+-- what is at least the weighted entries less a tail in every first state is at least the lower bound less the tail in all
+over-first : (g : GameData) (k : CertificateData) → CertificateStands g k → (e q t w : ℕ) (paid : ℕ → ℤ) →
+    ((s : ℕ) → s < g.shape.states → ((weighted k.start_nodes (λ i. (nodes_of k.nodes i).vector s) *ℤ pos q -ℤ pos t) *ℤ pos w) ≤ℤ (pos e *ℤ paid s)) →
+    ((k.lower.num *ℤ pos q -ℤ pos (t * first_total g)) *ℤ pos w) ≤ℤ (pos e *ℤ total (λ s. pos (first_at g s) *ℤ paid s) (below g.shape.states))
+over-first g k stands e q t w paid least =
     let vector = λ (s : ℕ). weighted k.start_nodes (λ i. (nodes_of k.nodes i).vector s) in
-    let pays = λ (s : ℕ). pay (numbers g) n s (start k n) (family s) in
     let sum : total (λ s. pos (first_at g s) *ℤ vector s) (below g.shape.states) ≡ k.lower.num =
-    weighted-swap k.start_nodes (λ (s : ℕ). pos (first_at g s)) (λ i s. (nodes_of k.nodes i).vector s) (below g.shape.states) ∙ sym r.bound.0.0 in
-    subst (λ (lower : ℤ). ((lower *ℤ pos q -ℤ pos (t * first_total g)) *ℤ pos y) ≤ℤ (pos (x * unit) *ℤ total (λ s. pos (first_at g s) *ℤ pays s) (below g.shape.states))) sum
-    (family-lower g.shape.states (x * unit) q y t (first_at g) vector pays
-    (λ s ls. with_tail (vector s) (pos q) (pos t) (pos y) (pos (x * unit) *ℤ pays s) (lower-half_at g k full stands whole n s (family s) ls (right s ls))))
+    weighted-swap k.start_nodes (λ (s : ℕ). pos (first_at g s)) (λ i s. (nodes_of k.nodes i).vector s) (below g.shape.states) ∙ sym (rules g k stands.holds).bound.0.0 in
+    subst (λ (lower : ℤ). ((lower *ℤ pos q -ℤ pos (t * first_total g)) *ℤ pos w) ≤ℤ (pos e *ℤ total (λ s. pos (first_at g s) *ℤ paid s) (below g.shape.states))) sum
+    (family-lower g.shape.states e q w t (first_at g) vector paid (λ s ls. with_tail (vector s) (pos q) (pos t) (pos w) (pos e *ℤ paid s) (least s ls)))
   where
     back : (x t : ℤ) → x -ℤ t +ℤ t ≡ x
     back x t = omega (arith, sums)
@@ -137,3 +138,34 @@ lower-half g k full stands whole n family right =
     with_tail x q t y z h =
         let same : (x *ℤ q -ℤ t) *ℤ y +ℤ t *ℤ y ≡ x *ℤ (q *ℤ y) = sym (add-mulℤ (x *ℤ q -ℤ t) t y) ∙ ap (λ (w : ℤ). w *ℤ y) (back (x *ℤ q) t) ∙ mulℤ_assoc x q y in
         omega (arith, sums, same)
+
+-- the same with the sum of the weights in the tail
+pub over-first_starts : (g : GameData) (k : CertificateData) → CertificateStands g k → (e q t w : ℕ) (paid : ℕ → ℤ) →
+    ((s : ℕ) → s < g.shape.states →
+    ((weighted k.start_nodes (λ i. (nodes_of k.nodes i).vector s) *ℤ pos q -ℤ weights_sum k.start_nodes *ℤ pos t) *ℤ pos w) ≤ℤ (pos e *ℤ paid s)) →
+    ((k.lower.num *ℤ pos q -ℤ weights_sum k.start_nodes *ℤ pos (t * first_total g)) *ℤ pos w) ≤ℤ (pos e *ℤ total (λ s. pos (first_at g s) *ℤ paid s) (below g.shape.states))
+over-first_starts g k stands e q t w paid least =
+    let x : ℕ = from_total k in
+    let sum = total (λ s. pos (first_at g s) *ℤ paid s) (below g.shape.states) in
+    let tails : x * t * first_total g ≡ x * (t * first_total g) = omega arith in
+    subst (λ (y : ℤ). ((k.lower.num *ℤ pos q -ℤ y *ℤ pos (t * first_total g)) *ℤ pos w) ≤ℤ (pos e *ℤ sum)) (from-sum g k stands)
+    (subst (λ (y : ℕ). ((k.lower.num *ℤ pos q -ℤ pos y) *ℤ pos w) ≤ℤ (pos e *ℤ sum)) tails
+    (over-first g k stands e q (x * t) w paid (λ s ls.
+    subst (λ (y : ℤ). ((weighted k.start_nodes (λ i. (nodes_of k.nodes i).vector s) *ℤ pos q -ℤ y *ℤ pos t) *ℤ pos w) ≤ℤ (pos e *ℤ paid s)) (sym (from-sum g k stands)) (least s ls))))
+
+pub starts-earn : StartsEarn
+starts-earn g k keeps stands whole n family right =
+    over-first_starts g k stands unit ((numbers g).discount_under ^ n) ((numbers g).discount_over ^ n * span g) (((numbers g).row_total * mix_total * whole) ^ n)
+    (λ s. starts_earn g k n s (family s)) (λ s ls. starts-earn_at g k keeps stands whole n s (family s) ls (right s ls))
+
+pub lower-half : (g : GameData) (k : CertificateData) → KeepsSpan (numbers g) (span g) → CertificateStands g k → LowerHalf g k
+lower-half g k keeps stands whole n family right =
+    let x : ℕ = from_total k in
+    over-first g k stands (x * unit) ((numbers g).discount_under ^ n) (x * (numbers g).discount_over ^ n * span g) (((numbers g).row_total * (x * mix_total) * whole) ^ n)
+    (λ s. pay (numbers g) n s (start k n) (family s)) (λ s ls. lower-half_at g k keeps stands whole n s (family s) ls (right s ls))
+
+pub start-nodes_weigh : StartNodesWeigh
+start-nodes_weigh g k stands = subst (λ (z : ℤ). pos 1 ≤ℤ z) (from-sum g k stands) (positive (from_total k) (from-positive g k stands))
+  where
+    positive : (n : ℕ) → 1 ≤ n → pos 1 ≤ℤ pos n
+    positive n h = omega (arith, ints)

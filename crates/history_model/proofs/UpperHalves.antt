@@ -19,12 +19,14 @@ use Rattle.game_model.specs.Branches.{mix_total}
 use Rattle.game_model.specs.Game.{GameData, IsWithin, first_at, numbers, span, unit}
 use Rattle.game_model.specs.Mixed.{mixed_informed}
 use Rattle.game_model.specs.Numbers.{RowsAreFull}
-use Rattle.game_model.specs.Plan.{InformedPlan, IsInformedPlan, OwnPlan}
+use Rattle.game_model.specs.Plan.{InformedPlan, IsInformedPlan, IsOwnPlan, OwnPlan}
 use Rattle.game_model.specs.Play.{pay}
+use Rattle.game_model.specs.Seeds.{KeepsSpan}
 use Rattle.game_model.proofs.Mixed.{mixed_informed-is_plan, pay-mixed_informed, scaled_informed-is_plan}
 use Rattle.game_model.proofs.Pay.{each-from}
 use Rattle.history_model.specs.Halves.{HoldIsPlan, UpperHalf, common, first_weights, over_total, point_plan, reply, reply_item}
 use Rattle.history_model.specs.Plans.{masses}
+use Rattle.history_model.specs.Starts.{StartPointsMakeUp, StartsHold, starts_cost}
 use Rattle.history_model.proofs.Splitting.{Divides, product-divides, product-positive, sum_by-scale, zero-weights}
 use Rattle.history_model.proofs.Standing.{point-holds, point-plans, some_mix}
 use Rattle.history_model.proofs.Weighted.{NotNegative, weighted-is, weighted-most, zero_left}
@@ -242,29 +244,73 @@ drawn-most e m w0 d w mix z n r paid sum some is h =
     ends : (a b c d : ℤ) → a ≤ℤ b → a ≡ c → b ≡ d → c ≤ℤ d
     ends a b c d h e f = omega (arith, sums)
 
-pub upper-half : (g : GameData) (k : CertificateData) → RowsAreFull (numbers g) → CertificateStands g k → UpperHalf g k
-upper-half g k full stands whole n sigma right =
+-- the start points cost at most the upper bound and the tail
+weighted-cost : (g : GameData) (k : CertificateData) → RowsAreFull (numbers g) → CertificateStands g k →
+    (whole n : ℕ) (sigma : OwnPlan n) → IsOwnPlan (numbers g) whole n sigma →
+    (pos unit *ℤ weighted k.start_points (point_pay g k n sigma))
+    ≤ℤ ((k.upper.num *ℤ pos ((numbers g).discount_under ^ n) +ℤ pos (unsigned_abs k.multiple * (numbers g).discount_over ^ n * span g * first_total g))
+    *ℤ pos (((numbers g).row_total * whole * mix_total * common g k) ^ n))
+weighted-cost g k full stands whole n sigma right =
     let m : ℕ = unsigned_abs k.multiple in
     let q : ℕ = (numbers g).discount_under ^ n in
     let t : ℕ = (numbers g).discount_over ^ n * span g in
     let w : ℕ = ((numbers g).row_total * whole * mix_total * common g k) ^ n in
-    let r = rules g k stands.holds in
-    let S = below g.shape.states in
     let v = λ (j : ℕ). (points_of k.points j).value in
     let b = λ (j : ℕ). pos (belief_total (numbers g) (points_of k.points j)) in
     let p = point_pay g k n sigma in
-    let paid = total (λ s. pos (first_at g s) *ℤ pay (numbers g) n s sigma (reply g k s n)) S in
     let each_holds : AllByRecursion (λ (start : ℕ × ℤ). (pos unit *ℤ p start.0) ≤ℤ ((v start.0 *ℤ pos q +ℤ pos t *ℤ b start.0) *ℤ pos w)) k.start_points =
     each-from (IsStart (length k.points) (pos most_over)) _ k.start_points (λ start h. point-holds g k full stands whole n start.0 sigma h.0 right) stands.fits.starts.over.each in
     let most = weighted-most k.start_points v b p (pos unit) (pos q) (pos t) (pos w) (over-some g k stands) each_holds in
+    let tails : t * (m * first_total g) ≡ m * (numbers g).discount_over ^ n * span g * first_total g = omega arith in
+    subst (λ (y : ℤ). (pos unit *ℤ weighted k.start_points p) ≤ℤ ((y *ℤ pos q +ℤ pos (m * (numbers g).discount_over ^ n * span g * first_total g)) *ℤ pos w)) (sym (rules g k stands.holds).bound.1.0)
+    (subst (λ (y : ℕ). (pos unit *ℤ weighted k.start_points p) ≤ℤ ((weighted k.start_points v *ℤ pos q +ℤ pos y) *ℤ pos w)) tails
+    (subst (λ (y : ℤ). (pos unit *ℤ weighted k.start_points p) ≤ℤ ((weighted k.start_points v *ℤ pos q +ℤ pos t *ℤ y) *ℤ pos w)) (totals-sum g k stands) most))
+
+pub upper-half : (g : GameData) (k : CertificateData) → KeepsSpan (numbers g) (span g) → CertificateStands g k → UpperHalf g k
+upper-half g k keeps stands whole n sigma right =
+    let m : ℕ = unsigned_abs k.multiple in
+    let S = below g.shape.states in
+    let p = point_pay g k n sigma in
+    let paid = total (λ s. pos (first_at g s) *ℤ pay (numbers g) n s sigma (reply g k s n)) S in
     let is : pos (over_total g k) *ℤ paid ≡ pos (over_total g k ^ n * first_weights g) *ℤ weighted k.start_points p =
     sym (total-scale (pos (over_total g k)) (λ s. pos (first_at g s) *ℤ pay (numbers g) n s sigma (reply g k s n)) S)
     ∙ total-below g.shape.states _ (λ s. pos (over_total g k ^ n * first_weights g) *ℤ brought_pay g k n sigma s) (λ s ls. pay-reply g k stands n sigma s ls)
     ∙ total-scale (pos (over_total g k ^ n * first_weights g)) (brought_pay g k n sigma) S
     ∙ ap (λ (z : ℤ). pos (over_total g k ^ n * first_weights g) *ℤ z) (brought_pay-sum g k stands n sigma) in
-    let tails : t * (m * first_total g) ≡ m * (numbers g).discount_over ^ n * span g * first_total g = omega arith in
-    drawn-most unit m (first_weights g) (numbers g).row_total whole mix_total (common g k) n (k.upper.num *ℤ pos q +ℤ pos (m * (numbers g).discount_over ^ n * span g * first_total g)) paid
-    (weighted k.start_points p) (first-positive g) is
-    (subst (λ (y : ℤ). (pos unit *ℤ weighted k.start_points p) ≤ℤ ((y *ℤ pos q +ℤ pos (m * (numbers g).discount_over ^ n * span g * first_total g)) *ℤ pos w)) (sym r.bound.1.0)
-    (subst (λ (y : ℕ). (pos unit *ℤ weighted k.start_points p) ≤ℤ ((weighted k.start_points v *ℤ pos q +ℤ pos y) *ℤ pos w)) tails
-    (subst (λ (y : ℤ). (pos unit *ℤ weighted k.start_points p) ≤ℤ ((weighted k.start_points v *ℤ pos q +ℤ pos t *ℤ y) *ℤ pos w)) (totals-sum g k stands) most)))
+    drawn-most unit m (first_weights g) (numbers g).row_total whole mix_total (common g k) n
+    (k.upper.num *ℤ pos ((numbers g).discount_under ^ n) +ℤ pos (m * (numbers g).discount_over ^ n * span g * first_total g)) paid
+    (weighted k.start_points p) (first-positive g) is (weighted-cost g k keeps.full stands whole n sigma right)
+
+-- ---- the start points' own plans
+multiple-is : (g : GameData) (k : CertificateData) → CertificateStands g k → k.multiple ≡ pos (unsigned_abs k.multiple)
+multiple-is g k stands = magnitude-is k.multiple (low k.multiple stands.fits.starts.multiple.0)
+  where
+    low : (x : ℤ) → pos 1 ≤ℤ x → pos 0 ≤ℤ x
+    low x h = omega (arith, ints)
+
+starts_cost-sum : (g : GameData) (k : CertificateData) (n : ℕ) (sigma : OwnPlan n) →
+    total (λ s. starts_cost g k n s sigma) (below g.shape.states) ≡ weighted k.start_points (point_pay g k n sigma)
+starts_cost-sum g k n sigma =
+    let S = below g.shape.states in
+    let p = λ (s : ℕ) (start : ℕ × ℤ). pos ((points_of k.points start.0).belief s) *ℤ pay (numbers g) n s sigma (point_plan g k start.0 s n) in
+    total-swap (λ s (start : ℕ × ℤ). start.1 *ℤ p s start) S k.start_points
+    ∙ total-same _ (λ (start : ℕ × ℤ). start.1 *ℤ point_pay g k n sigma start.0) k.start_points (each (λ (start : ℕ × ℤ). total-scale start.1 (λ s. p s start) S) k.start_points)
+
+pub starts-hold : StartsHold
+starts-hold g k keeps stands whole n sigma right =
+    let m : ℕ = unsigned_abs k.multiple in
+    let q : ℕ = (numbers g).discount_under ^ n in
+    let t : ℕ = (numbers g).discount_over ^ n * span g * first_total g in
+    let w : ℕ = ((numbers g).row_total * whole * mix_total * common g k) ^ n in
+    let tails : m * (numbers g).discount_over ^ n * span g * first_total g ≡ m * t = omega arith in
+    subst (λ (y : ℤ). (pos unit *ℤ total (λ s. starts_cost g k n s sigma) (below g.shape.states)) ≤ℤ ((k.upper.num *ℤ pos q +ℤ y *ℤ pos t) *ℤ pos w)) (sym (multiple-is g k stands))
+    (subst (λ (y : ℕ). (pos unit *ℤ total (λ s. starts_cost g k n s sigma) (below g.shape.states)) ≤ℤ ((k.upper.num *ℤ pos q +ℤ pos y) *ℤ pos w)) tails
+    (subst (λ (y : ℤ). (pos unit *ℤ y) ≤ℤ ((k.upper.num *ℤ pos q +ℤ pos (m * (numbers g).discount_over ^ n * span g * first_total g)) *ℤ pos w)) (sym (starts_cost-sum g k n sigma))
+    (weighted-cost g k keeps.full stands whole n sigma right)))
+
+pub start-points_make_up : StartPointsMakeUp
+start-points_make_up g k stands s ls =
+    sym (weighted-is k.start_points (λ j. pos ((points_of k.points j).belief s)) (over-some g k stands))
+    ∙ total-pos (brought k s) k.start_points
+    ∙ ap pos (brought-sums g k stands s ls)
+    ∙ ap (λ (z : ℤ). z *ℤ pos (first_at g s)) (sym (multiple-is g k stands))

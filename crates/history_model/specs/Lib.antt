@@ -1,2 +1,9 @@
 pub mod Plans
 pub mod Halves
+pub mod Courses
+pub mod Strategies
+pub mod Machines
+pub mod Playing
+pub mod Trees
+pub mod MachinePlans
+pub mod Starts

@@ -4,6 +4,10 @@
 ghost use Rattle.controller.specs.Certificates.{CertificateStands};
 ghost use Rattle.history_model.specs.Halves.{HoldIsPlan, LowerHalf, LowerHalfAt, LowerHolds, MassesDivide, NodesArePlans, NodesEarn, OwnIsPlan};
 ghost use Rattle.history_model.specs.Halves.{PointsArePlans, PointsHold, UpperHalf, UpperHolds};
+ghost use Rattle.history_model.specs.MachinePlans.{ActionsPlay, BroughtDivides, MultiplesAgree, NodePlans, NodesPlay, PointPlans, PointsPlay};
+ghost use Rattle.history_model.specs.Playing.{CoursesWeigh, PlansPay, PlansWeigh};
+ghost use Rattle.history_model.specs.Starts.{StartNodesWeigh, StartPointsMakeUp, StartsEarn, StartsEarnAt, StartsHold};
+ghost use Rattle.history_model.specs.Trees.{InformedStrategiesArePlans, InformedStrategiesPlay, OwnStrategiesArePlans, OwnStrategiesPlay, StrategiesPay};
 
 use controller::Certificate;
 use game_model::{Game, law_game};
@@ -54,3 +58,46 @@ pub fn law_upper(game: &Game, certificate: &Certificate)
     law_game(game);
     law_splittings();
 }
+
+/// A law: two plans that play as weights say pay what the weights earn, a plain sum over all lists of n stages. The
+/// weights of these lists sum to those of all plays, and for right plans to the scale, so what is earned is a mean.
+pub fn law_courses()
+    ensures pay { PlansPay }
+    ensures weights { PlansWeigh }
+    ensures mean { CoursesWeigh }
+{}
+
+/// A law: a strategy of either player that depends on the history has a plan, which is a right plan of the strategy's
+/// total, plays as the strategy says, and pays what the strategy earns.
+pub fn law_strategies()
+    ensures own_plans { OwnStrategiesArePlans }
+    ensures informed_plans { InformedStrategiesArePlans }
+    ensures own_plays { OwnStrategiesPlay }
+    ensures informed_plays { InformedStrategiesPlay }
+    ensures pay { StrategiesPay }
+{}
+
+/// A law: of every certificate that stands the plan of each node, and of each point in each first state, plays as a
+/// machine whose coin is the node, or the point, that comes next, and is a right plan. So does the plan that always
+/// plays one action. The multiple that the points' machine is drawn by is the common multiple of the plans, and each
+/// positive number that a point brings divides it.
+pub fn law_machines()
+    ensures nodes { NodesPlay }
+    ensures node_plans { NodePlans }
+    ensures points { PointsPlay }
+    ensures point_plans { PointPlans }
+    ensures actions { ActionsPlay }
+    ensures multiple { MultiplesAgree }
+    ensures divide { BroughtDivides }
+{}
+
+/// A law: both halves at the starts of every certificate that stands, by the own plans of its start nodes and start
+/// points, as sums of weight times pay. The weights of the start nodes sum to at least 1, and those of the start points
+/// times their beliefs make up the multiple of the first belief.
+pub fn law_starts()
+    ensures lower { StartsEarn }
+    ensures lower_at { StartsEarnAt }
+    ensures upper { StartsHold }
+    ensures some_node { StartNodesWeigh }
+    ensures make_up_first { StartPointsMakeUp }
+{}

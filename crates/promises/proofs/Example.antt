@@ -10,10 +10,10 @@ use Rattle.game_model.specs.Branches.{Branch}
 use Rattle.game_model.specs.Game.{GameData}
 use Rattle.game_model.specs.Numbers.{Numbers}
 use Rattle.game_model.specs.declared.parts.Landing.{Landing}
-use Rattle.promises.specs.Courses.{chance, courses, earned}
-use Rattle.promises.specs.Machines.{node_weights, one_action}
+use Rattle.history_model.specs.Courses.{chance, courses, earned}
+use Rattle.history_model.specs.Machines.{node_weights, one_action}
 use Rattle.promises.specs.Promises.{against_splitting, common_multiple, controller_earned}
-use Rattle.promises.specs.Strategies.{InformedStrategy, IsInformedStrategy, IsOwnStrategy, OwnStrategy, informed_weights}
+use Rattle.history_model.specs.Strategies.{InformedStrategy, IsInformedStrategy, IsOwnStrategy, OwnStrategy, informed_weights}
 use Rattle.promises.specs.Watching.{IsWatchingStrategy, WatchingStrategy}
 
 -- ---- to play each action alike is a strategy

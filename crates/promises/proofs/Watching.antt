@@ -17,22 +17,21 @@ use Rattle.controller.proofs.Members.{nodes-keep}
 use Rattle.controller.proofs.Places.{rules}
 use Rattle.game_model.specs.Game.{GameData, first_at, numbers, span}
 use Rattle.game_model.specs.Numbers.{Numbers, RowsAreFull, over_row}
-use Rattle.game_model.proofs.Family.{family-lower}
 use Rattle.game_model.proofs.Lower.{less_tail}
 use Rattle.game_model.proofs.Pay.{each-from}
 use Rattle.game_model.proofs.Steps.{over_row-add, over_row-scale, total-row}
-use Rattle.history_model.specs.Halves.{from_total}
-use Rattle.history_model.proofs.LowerHalves.{from-some, from-sum}
+use Rattle.history_model.proofs.LowerHalves.{from-some, over-first_starts}
 use Rattle.history_model.proofs.Parts.{NodeGains}
 use Rattle.history_model.proofs.Standing.{nodes-gain}
-use Rattle.history_model.proofs.Weighted.{weighted-least, weighted-swap}
-use Rattle.promises.specs.Courses.{Stage, chance, courses, earned, worth}
-use Rattle.promises.specs.Machines.{node_weights, own_place}
-use Rattle.promises.specs.Promises.{drawn, first_whole, units}
+use Rattle.history_model.proofs.Weighted.{weighted-least}
+use Rattle.history_model.specs.Courses.{Stage, chance, courses, earned, worth}
+use Rattle.history_model.specs.Machines.{node_weights, own_place}
+use Rattle.promises.specs.Promises.{units}
 use Rattle.promises.specs.Watching.{EarnsWatched, EarnsWatchedAt, IsStage, WatchedInTheMean, watched_earned, watching_weights}
-use Rattle.promises.proofs.Courses.{chance_after, stage_of}
-use Rattle.promises.proofs.Machines.{gathered, own_place-snoc}
-use Rattle.promises.proofs.Matching.{next_x, next_y, of_weights, weights-first}
+use Rattle.history_model.specs.Playing.{stage_of}
+use Rattle.history_model.proofs.Courses.{chance_after}
+use Rattle.history_model.proofs.Machines.{gathered, own_place-snoc}
+use Rattle.history_model.proofs.Matching.{next_x, next_y, of_weights, weights-first}
 
 -- ---- the sum over a stage
 abbrev stage_sum : Numbers → ℕ → ℕ → ℕ → (ℕ → ℕ → ℕ → ℕ) → (ℕ → ℕ → ℕ) → (ℕ → ℕ → ℕ → ℕ → ℕ → ℕ → ℤ) → ℤ
@@ -321,35 +320,13 @@ earns-watched_at g k full stands n coins whole s i strategy ls li is =
 -- the draw of the start node, and of the first state
 pub earns-watched : (g : GameData) (k : CertificateData) → RowsAreFull (numbers g) → CertificateStands g k → EarnsWatched g k
 earns-watched g k full stands n coins whole strategy is =
-    let f : ℕ = from_total k in
     let q : ℕ = (numbers g).discount_under ^ n in
     let t : ℕ = (numbers g).discount_over ^ n * span g in
     let w : ℕ = ((numbers g).row_total * units * whole) ^ n in
-    let vector = λ (s : ℕ). drawn k.start_nodes (λ i. (nodes_of k.nodes i).vector s) in
-    let sum = λ (s : ℕ). watched_earned g k coins n s strategy in
-    let lower : total (λ s. pos (first_at g s) *ℤ vector s) (below g.shape.states) ≡ k.lower.num =
-    weighted-swap k.start_nodes (λ (s : ℕ). pos (first_at g s)) (λ i s. (nodes_of k.nodes i).vector s) (below g.shape.states) ∙ sym (rules g k stands.holds).bound.0.0 in
-    let at : (s : ℕ) → s < g.shape.states → ((vector s *ℤ pos q -ℤ pos (f * t)) *ℤ pos w) ≤ℤ (pos units *ℤ sum s) =
-    λ s ls.
-    subst (λ (y : ℤ). ((vector s *ℤ pos q -ℤ y *ℤ pos t) *ℤ pos w) ≤ℤ (pos units *ℤ sum s)) (sym (from-sum g k stands))
-    (weighted-least k.start_nodes (λ i. (nodes_of k.nodes i).vector s) (λ i. earned (numbers g) (length k.nodes) coins n s (node_weights (nodes_of k.nodes) i) (watching_weights strategy s i))
+    over-first_starts g k stands units q t w (λ s. watched_earned g k coins n s strategy) (λ s ls.
+    weighted-least k.start_nodes (λ i. (nodes_of k.nodes i).vector s) (λ i. earned (numbers g) (length k.nodes) coins n s (node_weights (nodes_of k.nodes) i) (watching_weights strategy s i))
     (pos units) (pos q) (pos t) (pos w) (from-some g k stands)
-    (each-from (IsStart (length k.nodes) (pos most_from)) _ k.start_nodes (λ start h. earns-watched_at g k full stands n coins whole s start.0 strategy ls h.0 is) stands.fits.starts.from.each)) in
-    let said = subst (λ (y : ℤ). ((y *ℤ pos q -ℤ pos (f * t * first_whole g)) *ℤ pos w) ≤ℤ (pos units *ℤ total (λ s. pos (first_at g s) *ℤ sum s) (below g.shape.states))) lower
-    (family-lower g.shape.states units q w (f * t) (first_at g) vector sum (λ s ls. with_tail (vector s) (pos q) (pos (f * t)) (pos w) (pos units *ℤ sum s) (at s ls))) in
-    subst (λ (y : ℤ). ((k.lower.num *ℤ pos q -ℤ y *ℤ pos (t * first_whole g)) *ℤ pos w) ≤ℤ (pos units *ℤ total (λ s. pos (first_at g s) *ℤ sum s) (below g.shape.states))) (from-sum g k stands)
-    (subst (λ (y : ℕ). ((k.lower.num *ℤ pos q -ℤ pos y) *ℤ pos w) ≤ℤ (pos units *ℤ total (λ s. pos (first_at g s) *ℤ sum s) (below g.shape.states))) (regroup f t (first_whole g)) said)
-  where
-    regroup : (f t b : ℕ) → f * t * b ≡ f * (t * b)
-    regroup f t b = omega arith
-
-    back : (x t : ℤ) → x -ℤ t +ℤ t ≡ x
-    back x t = omega (arith, sums)
-
-    with_tail : (x q t y z : ℤ) → ((x *ℤ q -ℤ t) *ℤ y) ≤ℤ z → (x *ℤ (q *ℤ y)) ≤ℤ (z +ℤ t *ℤ y)
-    with_tail x q t y z h =
-        let same : (x *ℤ q -ℤ t) *ℤ y +ℤ t *ℤ y ≡ x *ℤ (q *ℤ y) = sym (add-mulℤ (x *ℤ q -ℤ t) t y) ∙ ap (λ (w : ℤ). w *ℤ y) (back (x *ℤ q) t) ∙ mulℤ_assoc x q y in
-        omega (arith, sums, same)
+    (each-from (IsStart (length k.nodes) (pos most_from)) _ k.start_nodes (λ start h. earns-watched_at g k full stands n coins whole s start.0 strategy ls h.0 is) stands.fits.starts.from.each))
 
 -- ---- the weights of all courses
 stage_sum-same : (g : Numbers) (U V s : ℕ) (X : ℕ → ℕ → ℕ → ℕ) (Y : ℕ → ℕ → ℕ) (f h : ℕ → ℕ → ℕ → ℕ → ℕ → ℕ → ℤ) →

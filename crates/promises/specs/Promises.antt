@@ -7,9 +7,9 @@ use Rattle.controller.specs.Certificates.{CertificateData}
 use Rattle.game_model.specs.Game.{GameData, first_at, numbers, span}
 use Rattle.game_model.specs.Numbers.{Numbers}
 use Rattle.point_set.specs.Points.{points_of}
-use Rattle.promises.specs.Courses.{chance, courses, earned}
-use Rattle.promises.specs.Machines.{brought, multiple, node_weights, one_action, point_weights}
-use Rattle.promises.specs.Strategies.{InformedStrategy, IsInformedStrategy, IsOwnStrategy, OwnStrategy, informed_weights, own_weights}
+use Rattle.history_model.specs.Courses.{chance, courses, earned}
+use Rattle.history_model.specs.Machines.{brought, multiple, node_weights, one_action, point_weights}
+use Rattle.history_model.specs.Strategies.{InformedStrategy, IsInformedStrategy, IsOwnStrategy, OwnStrategy, informed_weights, own_weights}
 
 -- both constants: units of reward, and the total of a mix
 abbrev pub units : ℕ

@@ -7,8 +7,8 @@ use Rattle.alpha_set.specs.Nodes.{nodes_of}
 use Rattle.controller.specs.Certificates.{CertificateData}
 use Rattle.game_model.specs.Game.{GameData, first_at, numbers, span}
 use Rattle.game_model.specs.Numbers.{Numbers}
-use Rattle.promises.specs.Courses.{InformedWeights, Stage, chance, courses, earned}
-use Rattle.promises.specs.Machines.{node_weights}
+use Rattle.history_model.specs.Courses.{InformedWeights, Stage, chance, courses, earned}
+use Rattle.history_model.specs.Machines.{node_weights}
 use Rattle.promises.specs.Promises.{drawn, first_whole, start_whole, units}
 
 pub record IsStage (g : Numbers) (own_coins informed_coins : ℕ) (x : Stage) : Type 0 where

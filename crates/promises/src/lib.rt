@@ -11,8 +11,8 @@ ghost use Rattle.std.specs.Prelude.{IfSome, IsTrue, drop, length, ℕ, ◌<◌, 
 
 use cert_check::{Verdict, check};
 use controller::Certificate;
-use game_model::{Game, MOST_STATES, law_game, law_mixed, law_seeds, law_weights};
-use history_model::{law_lower, law_upper};
+use game_model::{Game, MOST_STATES, law_game, law_seeds};
+use history_model::{law_courses, law_machines, law_starts, law_strategies};
 use std::alloc::Global;
 
 /// Whether a certificate stands. If it does, its controller earns at least the lower bound less the tail against every
@@ -57,10 +57,10 @@ pub fn law_promises(game: &Game, certificate: &Certificate)
     ensures starts { StartsAreDrawn game.now certificate.now }
 {
     law_game(game);
-    law_weights();
-    law_mixed();
-    law_lower(game, certificate);
-    law_upper(game, certificate);
+    law_courses();
+    law_strategies();
+    law_machines();
+    law_starts();
 }
 
 /// What always playing one action earns at least, less the tail, against every strategy of the informed player that
@@ -71,6 +71,10 @@ pub fn always_earns(game: &Game, action: u32) -> i128
 {
     law_game(game);
     law_seeds();
+    law_courses();
+    law_strategies();
+    law_machines();
+    law_starts();
     let mut entries = [0; MOST_STATES];
     let vector = &mut entries[..game.states() as usize];
     game.steady(action, vector);

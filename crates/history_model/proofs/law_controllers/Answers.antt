@@ -7,6 +7,6 @@ returns c = record {
   plans = nodes-are_plans;
   nodes = λ g k keeps. nodes-earn g k keeps.full;
   plan = own-is_plan;
-  family = λ g k keeps. lower-half g k keeps.full;
-  state = λ g k keeps. lower-half_at g k keeps.full;
+  family = lower-half;
+  state = lower-half_at;
 }

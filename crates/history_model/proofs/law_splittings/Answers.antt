@@ -17,5 +17,5 @@ returns c = record {
   plans = points-are_plans;
   points = λ g k keeps. points-hold g k keeps.full;
   plan = hold-is_plan;
-  half = λ g k keeps. upper-half g k keeps.full;
+  half = upper-half;
 }

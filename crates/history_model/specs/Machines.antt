@@ -4,7 +4,7 @@ use Rattle.scaled_num.specs.Sums.{below}
 use Rattle.alpha_set.specs.Nodes.{Node}
 use Rattle.game_model.specs.Numbers.{Numbers}
 use Rattle.point_set.specs.Points.{Point}
-use Rattle.promises.specs.Courses.{InformedWeights, OwnWeights, Stage, product_over}
+use Rattle.history_model.specs.Courses.{InformedWeights, OwnWeights, Stage, product_over}
 
 -- where a machine stands after the stages so far: at its start, or where its last coin says
 abbrev pub own_place : ℕ → List Stage → ℕ

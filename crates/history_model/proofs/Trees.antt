@@ -6,10 +6,11 @@ use Rattle.scaled_num.specs.Sums.{below}
 use Rattle.scaled_num.proofs.Sums.{below-each, each-append, each-map, sum_by-map, total-below, total-map}
 use Rattle.game_model.specs.Numbers.{Numbers}
 use Rattle.game_model.specs.Plan.{InformedPlan, IsInformedPlan, IsOwnPlan, OwnPlan}
-use Rattle.promises.specs.Courses.{Stage}
-use Rattle.promises.specs.Strategies.{Felt, InformedStrategy, IsFelt, IsInformedStrategy, IsKnown, IsOwnStrategy, Known, OwnStrategy, felt, informed_weights, known, own_weights}
-use Rattle.promises.proofs.Courses.{stage_of}
-use Rattle.promises.proofs.Matching.{InformedMatches, OwnMatches}
+use Rattle.history_model.specs.Courses.{Stage}
+use Rattle.history_model.specs.Strategies.{Felt, InformedStrategy, IsFelt, IsInformedStrategy, IsKnown, IsOwnStrategy, Known, OwnStrategy, felt, informed_weights, known, own_weights}
+use Rattle.history_model.specs.Playing.{InformedPlaysAs, OwnPlaysAs, stage_of}
+use Rattle.history_model.specs.Trees.{InformedStrategiesArePlans, InformedStrategiesPlay, OwnStrategiesArePlans, OwnStrategiesPlay, StrategiesPay, felt_of, informed_tree, known_of, own_tree}
+use Rattle.history_model.proofs.Matching.{pays}
 
 longer : {X : Type 0} (xs : List X) (x : X) (n most : ℕ) → length xs + suc n ≤ most → length (xs ++ x ∷ []) + n ≤ most
 longer xs x n most l = omega (arith, length-append xs (x ∷ []))
@@ -19,17 +20,8 @@ map-snoc f [] x = refl
 map-snoc f (z ∷ xs) x = ap (λ ys. f z ∷ ys) (map-snoc f xs x)
 
 -- ---- the informed player
-abbrev known_of : ℕ → ℕ → ℕ → ℕ → ℕ → Known
-known_of a c o t v = record { own = a; informed = c; seen = o; to = t; coin = v }
-
--- the plan of a strategy after a history: one branch for each coin
-abbrev pub informed_tree : InformedStrategy → ℕ → ℕ → (n : ℕ) → List Known → InformedPlan n
-informed_tree strategy first coins zero history = tt
-informed_tree strategy first coins (suc n) history = λ c a o t.
-    map (λ v. (strategy first history c v, informed_tree strategy first coins n (history ++ known_of a c o t v ∷ []))) (below coins)
-
-pub informed_tree-matches : (g : Numbers) (strategy : InformedStrategy) (first coins n : ℕ) (past : List Stage) (history : List Known) → map known past ≡ history →
-    InformedMatches g coins (informed_weights strategy first) n (informed_tree strategy first coins n history) past
+informed_tree-matches : (g : Numbers) (strategy : InformedStrategy) (first coins n : ℕ) (past : List Stage) (history : List Known) → map known past ≡ history →
+    InformedPlaysAs g coins (informed_weights strategy first) n (informed_tree strategy first coins n history) past
 informed_tree-matches g strategy first coins zero past history e = tt
 informed_tree-matches g strategy first coins (suc n) past history e = λ c a o t lc la lo lt F G same.
     total-map (λ (b : ℕ × InformedPlan n). pos b.0 *ℤ F b.1)
@@ -41,7 +33,7 @@ informed_tree-matches g strategy first coins (suc n) past history e = λ c a o t
     (map-snoc known past (stage_of a c o t u v) ∙ ap (λ (h : List Known). h ++ known_of a c o t v ∷ []) e)))
     ∙ ap (λ (h : List Known). pos (strategy first h c v) *ℤ G v) (sym e))
 
-pub informed_tree-is_plan : (g : Numbers) (coins whole most : ℕ) (strategy : InformedStrategy) → IsInformedStrategy g coins whole most strategy →
+informed_tree-is_plan : (g : Numbers) (coins whole most : ℕ) (strategy : InformedStrategy) → IsInformedStrategy g coins whole most strategy →
     (first n : ℕ) (history : List Known) → first < g.states → length history + n ≤ most → AllByRecursion (IsKnown g coins) history →
     IsInformedPlan g whole n (informed_tree strategy first coins n history)
 informed_tree-is_plan g coins whole most strategy is first zero history lf lh h = tt
@@ -57,16 +49,8 @@ informed_tree-is_plan g coins whole most strategy is first (suc n) history lf lh
     }
 
 -- ---- player one
-abbrev felt_of : ℕ → ℕ → ℕ → Felt
-felt_of a o u = record { own = a; seen = o; coin = u }
-
-abbrev pub own_tree : OwnStrategy → ℕ → (n : ℕ) → List Felt → OwnPlan n
-own_tree strategy coins zero history = tt
-own_tree strategy coins (suc n) history = λ a o.
-    map (λ u. (strategy history a u, own_tree strategy coins n (history ++ felt_of a o u ∷ []))) (below coins)
-
-pub own_tree-matches : (g : Numbers) (strategy : OwnStrategy) (coins n : ℕ) (past : List Stage) (history : List Felt) → map felt past ≡ history →
-    OwnMatches g coins (own_weights strategy) n (own_tree strategy coins n history) past
+own_tree-matches : (g : Numbers) (strategy : OwnStrategy) (coins n : ℕ) (past : List Stage) (history : List Felt) → map felt past ≡ history →
+    OwnPlaysAs g coins (own_weights strategy) n (own_tree strategy coins n history) past
 own_tree-matches g strategy coins zero past history e = tt
 own_tree-matches g strategy coins (suc n) past history e = λ a o la lo F G same.
     total-map (λ (b : ℕ × OwnPlan n). pos b.0 *ℤ F b.1)
@@ -78,7 +62,7 @@ own_tree-matches g strategy coins (suc n) past history e = λ a o la lo F G same
     (map-snoc felt past (stage_of a c o t u v) ∙ ap (λ (h : List Felt). h ++ felt_of a o u ∷ []) e)))
     ∙ ap (λ (h : List Felt). pos (strategy h a u) *ℤ G u) (sym e))
 
-pub own_tree-is_plan : (g : Numbers) (coins whole most : ℕ) (strategy : OwnStrategy) → IsOwnStrategy g coins whole most strategy →
+own_tree-is_plan : (g : Numbers) (coins whole most : ℕ) (strategy : OwnStrategy) → IsOwnStrategy g coins whole most strategy →
     (n : ℕ) (history : List Felt) → length history + n ≤ most → AllByRecursion (IsFelt g coins) history → IsOwnPlan g whole n (own_tree strategy coins n history)
 own_tree-is_plan g coins whole most strategy is zero history lh h = tt
 own_tree-is_plan g coins whole most strategy is (suc n) history lh h =
@@ -91,3 +75,23 @@ own_tree-is_plan g coins whole most strategy is (suc n) history lh h =
           (below-each _ coins (λ u lu. own_tree-is_plan g coins whole most strategy is n (history ++ felt_of a o u ∷ []) (longer history (felt_of a o u) n most lh)
           (each-append (IsFelt g coins) history (felt_of a o u ∷ []) h (record { own = la; seen = lo; coin = lu }, tt))));
     }
+
+-- ---- from no history
+whole_length : (n : ℕ) → 0 + n ≤ n
+whole_length n = omega arith
+
+pub own-plans : OwnStrategiesArePlans
+own-plans g coins whole n strategy is = own_tree-is_plan g coins whole n strategy is n [] (whole_length n) tt
+
+pub informed-plans : InformedStrategiesArePlans
+informed-plans g coins whole n first strategy lf is = informed_tree-is_plan g coins whole n strategy is first n [] lf (whole_length n) tt
+
+pub own-plays : OwnStrategiesPlay
+own-plays g coins n strategy = own_tree-matches g strategy coins n [] [] refl
+
+pub informed-plays : InformedStrategiesPlay
+informed-plays g coins n first strategy = informed_tree-matches g strategy first coins n [] [] refl
+
+pub strategies-pay : StrategiesPay
+strategies-pay g U V n s own informed =
+    pays g U V (own_weights own) (informed_weights informed s) n s (own_tree own U n []) (informed_tree informed s V n []) (own-plays g U n own) (informed-plays g V n s informed)

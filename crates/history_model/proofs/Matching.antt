@@ -8,27 +8,12 @@ use Rattle.scaled_num.proofs.Products.{products, sums}
 use Rattle.scaled_num.proofs.Sums.{each, total-below, total-places, total-pos, total-same, total-scale}
 use Rattle.game_model.specs.Numbers.{Numbers}
 use Rattle.game_model.specs.Plan.{InformedPlan, OwnPlan}
-use Rattle.game_model.specs.Play.{Step, first_steps, gain, informed_after, no_informed_plan, no_own_plan, own_after, own_branch, pay, play_weight, plays, step_weight}
-use Rattle.game_model.proofs.Pay.{each-from, plays-length, total-plays}
+use Rattle.game_model.specs.Play.{Step, first_steps, gain, informed_after, no_informed_plan, no_own_plan, own_after, own_branch, play_weight, plays, step_weight}
+use Rattle.game_model.proofs.Pay.{each-from, plays-length, sum-play_weight, total-plays}
 use Rattle.game_model.proofs.Steps.{total-first_steps}
-use Rattle.promises.specs.Courses.{InformedWeights, OwnWeights, Stage, chance, courses, earned, stages, worth}
-use Rattle.promises.proofs.Courses.{chance-first, chance_after, first_weight, stage_of, total-courses, total-stages, worth-first}
-
--- A plan plays as the weights say after the stages so far: a sum over its branches is the sum over the coins, for whatever is
--- the same of the plan at a branch and of the coin, as soon as that plan plays on as the weights say.
-abbrev pub OwnMatches : Numbers → ℕ → OwnWeights → (n : ℕ) → OwnPlan n → List Stage → Type 0
-OwnMatches g U own zero plan past = Unit {0}
-OwnMatches g U own (suc n) plan past =
-    (a o : ℕ) → a < g.own_actions → o < g.observations → (F : OwnPlan n → ℤ) (G : ℕ → ℤ) →
-    ((u : ℕ) → u < U → (rest : OwnPlan n) → ((c t v : ℕ) → OwnMatches g U own n rest (past ++ stage_of a c o t u v ∷ [])) → F rest ≡ G u) →
-    total (λ (b : ℕ × OwnPlan n). pos b.0 *ℤ F b.1) (plan a o) ≡ total (λ u. pos (own past a o u) *ℤ G u) (below U)
-
-abbrev pub InformedMatches : Numbers → ℕ → InformedWeights → (n : ℕ) → InformedPlan n → List Stage → Type 0
-InformedMatches g V informed zero plan past = Unit {0}
-InformedMatches g V informed (suc n) plan past =
-    (c a o t : ℕ) → c < g.informed_actions → a < g.own_actions → o < g.observations → t < g.states → (F : InformedPlan n → ℤ) (G : ℕ → ℤ) →
-    ((v : ℕ) → v < V → (rest : InformedPlan n) → ((u : ℕ) → InformedMatches g V informed n rest (past ++ stage_of a c o t u v ∷ [])) → F rest ≡ G v) →
-    total (λ (b : ℕ × InformedPlan n). pos b.0 *ℤ F b.1) (plan c a o t) ≡ total (λ v. pos (informed past c a o t v) *ℤ G v) (below V)
+use Rattle.history_model.specs.Courses.{InformedWeights, OwnWeights, Stage, chance, courses, stages, worth}
+use Rattle.history_model.specs.Playing.{CoursesWeigh, InformedPlaysAs, OwnPlaysAs, PlansPay, PlansWeigh, stage_of}
+use Rattle.history_model.proofs.Courses.{chance-first, chance_after, first_weight, total-courses, total-stages, worth-first}
 
 -- both sums of an affine function of the gain
 abbrev of_plans : Numbers → (n : ℕ) → ℕ → OwnPlan n → InformedPlan n → ℤ → ℤ → ℤ
@@ -113,7 +98,7 @@ weights-first g U V own informed n past s x y =
     (λ u v. of_weights g U V own informed n (past ++ stage_of a c o t u v ∷ []) t (next_x g n s a c x y) (next_y g y)) (below U) (below V)))))
 
 agree : (g : Numbers) (U V : ℕ) (own : OwnWeights) (informed : InformedWeights) (n : ℕ) (past : List Stage) (s : ℕ) (sigma : OwnPlan n) (tau : InformedPlan n) (x y : ℤ) →
-    OwnMatches g U own n sigma past → InformedMatches g V informed n tau past →
+    OwnPlaysAs g U own n sigma past → InformedPlaysAs g V informed n tau past →
     of_plans g n s sigma tau x y ≡ of_weights g U V own informed n past s x y
 agree g U V own informed zero past s sigma tau x y om im = refl
 agree g U V own informed (suc n) past s sigma tau x y om im =
@@ -133,9 +118,7 @@ agree g U V own informed (suc n) past s sigma tau x y om im =
     ∙ sym (weights-first g U V own informed n past s x y)
 
 -- What two plans pay is what the weights earn.
-pub pays : (g : Numbers) (U V : ℕ) (own : OwnWeights) (informed : InformedWeights) (n s : ℕ) (sigma : OwnPlan n) (tau : InformedPlan n) →
-    OwnMatches g U own n sigma [] → InformedMatches g V informed n tau [] →
-    pay g n s sigma tau ≡ earned g U V n s own informed
+pub pays : PlansPay
 pays g U V own informed n s sigma tau om im =
     total-same _ _ (plays g n sigma tau) (each (λ play. plain (pos (play_weight g n s sigma tau play)) (gain g s play)) (plays g n sigma tau))
     ∙ agree g U V own informed n [] s sigma tau (pos 0) (pos 1) om im
@@ -148,9 +131,7 @@ pays g U V own informed n s sigma tau om im =
         same z = omega (arith, ints)
 
 -- The weights of all courses sum to those of all plays.
-pub weighs : (g : Numbers) (U V : ℕ) (own : OwnWeights) (informed : InformedWeights) (n s : ℕ) (sigma : OwnPlan n) (tau : InformedPlan n) →
-    OwnMatches g U own n sigma [] → InformedMatches g V informed n tau [] →
-    sum_by (play_weight g n s sigma tau) (plays g n sigma tau) ≡ sum_by (chance g n s own informed) (courses g U V n)
+pub weighs : PlansWeigh
 weighs g U V own informed n s sigma tau om im =
     ap up
     (sym (total-pos (play_weight g n s sigma tau) (plays g n sigma tau))
@@ -167,3 +148,7 @@ weighs g U V own informed n s sigma tau om im =
 
         same : (z : ℤ) → pos 1 ≡ pos 1 +ℤ pos 0 *ℤ z
         same z = omega (arith, ints)
+
+pub courses-weigh : CoursesWeigh
+courses-weigh g U V own informed own_total informed_total n s sigma tau full ls right right' om im =
+    sym (weighs g U V own informed n s sigma tau om im) ∙ sum-play_weight g own_total informed_total full n s sigma tau ls right right'

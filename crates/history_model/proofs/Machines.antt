@@ -14,10 +14,10 @@ use Rattle.game_model.specs.Play.{always}
 use Rattle.game_model.proofs.Pay.{each-from}
 use Rattle.history_model.specs.Plans.{informed_plan, mass_product, own_plan, product_of_positive}
 use Rattle.point_set.specs.Points.{Point, mass, shares_at}
-use Rattle.promises.specs.Courses.{Stage, product_over}
-use Rattle.promises.specs.Machines.{brought, informed_place, multiple, node_weights, one_action, own_place, point_weights, state_after}
-use Rattle.promises.proofs.Courses.{product-same, stage_of}
-use Rattle.promises.proofs.Matching.{InformedMatches, OwnMatches}
+use Rattle.history_model.specs.Courses.{Stage, product_over}
+use Rattle.history_model.specs.Machines.{brought, informed_place, multiple, node_weights, one_action, own_place, point_weights, state_after}
+use Rattle.history_model.specs.Playing.{InformedPlaysAs, OwnPlaysAs, stage_of}
+use Rattle.history_model.proofs.Courses.{product-same}
 
 -- ---- where a machine stands
 pub own_place-snoc : (start : ℕ) (past : List Stage) (x : Stage) → own_place start (past ++ x ∷ []) ≡ x.own_coin
@@ -88,7 +88,7 @@ gathered {X} p key weight n G (x ∷ xs) h =
 -- ---- the controller
 pub node-matches : (g : Numbers) (nodes : ℕ → Node) (count start : ℕ) →
     ((i a o : ℕ) → i < count → a < g.own_actions → o < g.observations → AllByRecursion (λ step. step.member < count) (steps_at (nodes i) a o)) →
-    (n : ℕ) (past : List Stage) (i : ℕ) → own_place start past ≡ i → i < count → OwnMatches g count (node_weights nodes start) n (own_plan nodes i n) past
+    (n : ℕ) (past : List Stage) (i : ℕ) → own_place start past ≡ i → i < count → OwnPlaysAs g count (node_weights nodes start) n (own_plan nodes i n) past
 node-matches g nodes count start named zero past i e li = tt
 node-matches g nodes count start named (suc n) past i e li = λ a o la lo F G same.
     let steps = steps_at (nodes i) a o in
@@ -102,7 +102,7 @@ node-matches g nodes count start named (suc n) past i e li = λ a o la lo F G sa
     ∙ ap (λ (j : ℕ). total (λ u. pos (sum_by (λ step. cond ((step.own == a) && (step.seen == o)) (cond (u == step.member) step.weight 0) 0) (nodes j).next) *ℤ G u) (below count)) (sym e)
 
 -- ---- always one action
-pub action-matches : (g : Numbers) (action n : ℕ) (past : List Stage) → OwnMatches g 1 (one_action action) n (always action n) past
+pub action-matches : (g : Numbers) (action n : ℕ) (past : List Stage) → OwnPlaysAs g 1 (one_action action) n (always action n) past
 action-matches g action zero past = tt
 action-matches g action (suc n) past = λ a o la lo F G same.
     by n action F G (a == action) (same 0 (omega arith) (always action n) (λ c t v. action-matches g action n (past ++ stage_of a c o t 0 v ∷ [])))
@@ -116,7 +116,7 @@ action-matches g action (suc n) past = λ a o la lo F G same.
 pub point-matches : (g : Numbers) (points : ℕ → Point) (count z start first : ℕ) → g.states ≤ count →
     ((j a o : ℕ) → j < count → a < g.own_actions → o < g.observations → AllByRecursion (λ share. share.member < count) (shares_at (points j) a o)) →
     (n : ℕ) (past : List Stage) (j s : ℕ) → informed_place start past ≡ j → state_after first past ≡ s → j < count →
-    InformedMatches g count (point_weights g points z start first) n (informed_plan g points z j s n) past
+    InformedPlaysAs g count (point_weights g points z start first) n (informed_plan g points z j s n) past
 point-matches g points count z start first enough named zero past j s e k lj = tt
 point-matches g points count z start first enough named (suc n) past j s e k lj = λ c a o t lc la lo lt F G same.
     let w = mass g (points j) a o t in

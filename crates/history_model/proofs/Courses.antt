@@ -7,10 +7,8 @@ use Rattle.scaled_num.specs.Sums.{below, total}
 use Rattle.scaled_num.proofs.Products.{products, sums}
 use Rattle.scaled_num.proofs.Sums.{total-below, total-flat_map, total-map, total-same, total-scale, each}
 use Rattle.game_model.specs.Numbers.{Numbers}
-use Rattle.promises.specs.Courses.{InformedWeights, OwnWeights, Stage, courses, product_over, stage_at, stages, state_at, worth}
-
-abbrev pub stage_of : ℕ → ℕ → ℕ → ℕ → ℕ → ℕ → Stage
-stage_of a c o t u v = record { own = a; informed = c; seen = o; to = t; own_coin = u; informed_coin = v }
+use Rattle.history_model.specs.Courses.{InformedWeights, OwnWeights, Stage, courses, product_over, stage_at, stages, state_at, worth}
+use Rattle.history_model.specs.Playing.{stage_of}
 
 append-nil : {X : Type 0} (xs : List X) → xs ++ [] ≡ xs
 append-nil [] = refl

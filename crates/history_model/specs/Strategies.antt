@@ -3,7 +3,7 @@ use Rattle.std.specs.Prelude.{ℕ, ◌≡◌, ◌<◌, ◌≤◌, List, length, 
 use Rattle.std.specs.List.{AllByRecursion}
 use Rattle.scaled_num.specs.Sums.{below}
 use Rattle.game_model.specs.Numbers.{Numbers}
-use Rattle.promises.specs.Courses.{InformedWeights, OwnWeights, Stage}
+use Rattle.history_model.specs.Courses.{InformedWeights, OwnWeights, Stage}
 
 -- what the informed player knows of a stage: all but player one's coin
 pub record Known : Type 0 where
