@@ -1,5 +1,5 @@
 -- Both halves at the starts, by the own plans of their nodes and points: a sum over the starts of weight times pay.
-use Rattle.std.specs.Prelude.{ℕ, ◌≡◌, ◌*◌, ◌^◌, ◌<◌, ℤ, pos, ◌+ℤ◌, ◌-ℤ◌, ◌*ℤ◌, ◌≤ℤ◌, length}
+use Rattle.std.specs.Prelude.{ℕ, ◌≡◌, ◌*◌, ◌^◌, ◌<◌, ℤ, pos, ◌+ℤ◌, ◌-ℤ◌, ◌*ℤ◌, ◌≤ℤ◌}
 use Rattle.scaled_num.specs.Sums.{below, total}
 use Rattle.alpha_set.specs.Nodes.{nodes_of}
 use Rattle.controller.specs.Certificates.{CertificateData, CertificateStands, first_total}
