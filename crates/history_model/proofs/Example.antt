@@ -10,6 +10,7 @@ use Rattle.game_model.specs.Plan.{InformedPlan}
 use Rattle.game_model.specs.Play.{always, pay}
 use Rattle.game_model.specs.declared.parts.Landing.{Landing}
 use Rattle.history_model.specs.Halves.{common, from_total, over_total, reply, reply_total, start, start_total}
+use Rattle.history_model.specs.Starts.{starts_cost, starts_earn}
 
 abbrev branch : ℕ → ℕ → ℕ → ℕ → Branch
 branch a o k weight = record { own = a; seen = o; member = k; weight = pos weight }
@@ -141,6 +142,22 @@ two_lower = refl
 two_lower_at :
     (pos 65536 *ℤ pos (((numbers guess_the_state).row_total * start_total two_starts * 1) ^ 2)) ≡ pos (from_total two_starts * unit) *ℤ pay (numbers guess_the_state) 2 0 (start two_starts 2) (alone 2)
 two_lower_at = refl
+
+-- the own plans of the start nodes pay 65536^2 in each first state, all of it that of the node that guesses the state
+two_earn : (starts_earn guess_the_state two_starts 2 0 (alone 2) ≡ pos (65536 ^ 2)) × (starts_earn guess_the_state two_starts 2 1 (alone 2) ≡ pos (65536 ^ 2))
+two_earn = (refl, refl)
+
+-- the lower half of these: 131072 * 65536^2 on both sides
+two_starts_lower :
+    (pos 131072 *ℤ pos (((numbers guess_the_state).row_total * mix_total * 1) ^ 2))
+    ≡ pos unit *ℤ total (λ s. pos (first_at guess_the_state s) *ℤ starts_earn guess_the_state two_starts 2 s (alone 2)) (below 2)
+two_starts_lower = refl
+
+-- against the own plans of the start points to guess state 0 is worth something from that state alone, half of the upper bound
+two_cost :
+    (starts_cost guess_the_state two_starts 1 0 (always 0 1) ≡ pos (65536 * common guess_the_state two_starts))
+    × (starts_cost guess_the_state two_starts 1 1 (always 0 1) ≡ pos 0)
+two_cost = (refl, refl)
 
 -- ---- the points of the first certificate, with the first belief twice as both corners and the point in the middle
 abbrev three_points : CertificateData

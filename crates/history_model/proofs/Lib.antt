@@ -11,3 +11,4 @@ pub mod Trees
 pub mod Machines
 pub mod MachinePlans
 pub mod Example
+pub mod Pennies
