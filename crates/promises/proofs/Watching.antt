@@ -1,13 +1,13 @@
 -- The controller earns its bound also where the informed player sees the node. The informed player's plans of game_model see no coin
 -- of player one, so this is an induction of its own, over the node rule.
 use Rattle.std.proofs.Common.{◌≡◌, ℕ, suc, zero, ◌+◌, ◌*◌, ◌^◌, ◌<◌, ◌≤◌, List, [], ◌∷◌, ◌++◌, length, length-append, refl, ap, subst, arith, sym, ◌∙◌}
-use Rattle.std.specs.Prelude.{ℤ, pos, ◌+ℤ◌, ◌-ℤ◌, ◌*ℤ◌, ◌≤ℤ◌, sum_by, cond, ◌==◌, ◌&&◌}
+use Rattle.std.specs.Prelude.{ℤ, pos, ◌+ℤ◌, ◌*ℤ◌, ◌≤ℤ◌, sum_by, cond, ◌==◌, ◌&&◌}
 use Rattle.std.specs.List.{AllByRecursion}
 use borrow.Author.Differences.{up}
 use Rattle.std.proofs.Math.Nat.{pow-zero, pow-suc}
 use Rattle.std.proofs.lemmas.Int.{ints}
 use Rattle.scaled_num.specs.Sums.{below, total}
-use Rattle.scaled_num.proofs.Products.{add-mulℤ, le-mulℤ, mulℤ_assoc, mulℤ_comm, products, sums}
+use Rattle.scaled_num.proofs.Products.{le-mulℤ, mulℤ_comm, products, sums}
 use Rattle.scaled_num.proofs.Sums.{each, each-append, total-add, total-below, total-below-le, total-pos, total-same, total-scale, total-swap, total-weights}
 use Rattle.alpha_set.specs.Nodes.{Node, nodes_of, steps_at, steps_worth}
 use Rattle.controller.specs.Certificates.{CertificateData, CertificateStands}
@@ -15,7 +15,7 @@ use Rattle.controller.specs.Members.{NodeKeeps}
 use Rattle.controller.specs.Starts.{IsStart, most_from}
 use Rattle.controller.proofs.Members.{nodes-keep}
 use Rattle.controller.proofs.Places.{rules}
-use Rattle.game_model.specs.Game.{GameData, first_at, numbers, span}
+use Rattle.game_model.specs.Game.{GameData, numbers, span}
 use Rattle.game_model.specs.Numbers.{Numbers, RowsAreFull, over_row}
 use Rattle.game_model.proofs.Lower.{less_tail}
 use Rattle.game_model.proofs.Pay.{each-from}
