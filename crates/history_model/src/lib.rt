@@ -78,9 +78,9 @@ pub fn law_strategies()
 {}
 
 /// A law: of every certificate that stands the plan of each node, and of each point in each first state, plays as a
-/// machine whose coin is the node, or the point, that comes next, and is a right plan. So does the plan that always
-/// plays one action. The multiple that the points' machine is drawn by is the common multiple of the plans, and each
-/// positive number that a point brings divides it.
+/// machine whose coin is the node, or the point, that comes next, and is a right plan. The plan that always plays one
+/// action plays as a machine too. The multiple by which the points' machine draws is the common multiple of the plans,
+/// and each positive number that a point brings divides it.
 pub fn law_machines()
     ensures nodes { NodesPlay }
     ensures node_plans { NodePlans }
