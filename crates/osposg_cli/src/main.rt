@@ -19,6 +19,8 @@ mod inputs;
 mod lenient_tests;
 mod plays;
 mod refusals;
+#[cfg(test)]
+mod round_tests;
 mod show;
 mod solve;
 #[cfg(test)]

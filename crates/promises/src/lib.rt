@@ -1,19 +1,20 @@
 //! What a certificate that stands promises, said of strategies by history and of sums over all lists of stages.
 #![tactic(auto)]
 
-ghost use Rattle.cert_text.specs.Answers.{IsTextFor};
 ghost use Rattle.controller.specs.Certificates.{CertificateStands};
 ghost use Rattle.game_model.specs.Game.{first_at, numbers, span};
-ghost use Rattle.game_text.specs.Text.{IsTextOf};
 ghost use Rattle.promises.specs.Promises.{ActionEarns, DrawsExactly, Earns, EarnsAt, EarnsInTheMean, HoldsDown, HoldsInTheMean, StartsAreDrawn};
 ghost use Rattle.promises.specs.Watching.{EarnsWatched, EarnsWatchedAt, WatchedInTheMean};
-ghost use Rattle.std.specs.Prelude.{IfSome, IsTrue, drop, length, ℕ, ◌<◌, ◌≤◌, ◌^◌, ◌↔◌};
+ghost use Rattle.promises.specs.Telling.{IsSeedWorth};
+ghost use Rattle.std.specs.Prelude.{IsTrue, ◌<◌, ◌↔◌};
+
+mod telling;
 
 use cert_check::{Verdict, check};
 use controller::Certificate;
 use game_model::{Game, MOST_STATES, law_game, law_seeds};
 use history_model::{law_courses, law_machines, law_starts, law_strategies};
-use std::alloc::Global;
+pub use telling::{Untold, told};
 
 /// Whether a certificate stands. If it does, its controller earns at least the lower bound less the tail against every
 /// strategy of the informed player that depends on the history, also where it sees the controller's nodes; and its
@@ -64,10 +65,12 @@ pub fn law_promises(game: &Game, certificate: &Certificate)
 }
 
 /// What always playing one action earns at least, less the tail, against every strategy of the informed player that
-/// depends on the history: a numerator over 65,536 times the total of the first belief.
+/// depends on the history: a numerator over 65,536 times the total of the first belief. It is the first belief's sum of
+/// the action's seed vector, of which there is one.
 pub fn always_earns(game: &Game, action: u32) -> i128
     requires { action < game.now.shape.own_actions }
-    ensures { ActionEarns (numbers game.now) (first_at game.now) (span game.now) action result }
+    ensures earns { ActionEarns (numbers game.now) (first_at game.now) (span game.now) action result }
+    ensures value { IsSeedWorth game.now action result }
 {
     law_game(game);
     law_seeds();
@@ -79,24 +82,4 @@ pub fn always_earns(game: &Game, action: u32) -> i128
     let vector = &mut entries[..game.states() as usize];
     game.steady(action, vector);
     game.first_product(vector)
-}
-
-/// The game and the certificate that the bytes spell, one at once after the other, where the certificate stands; None
-/// where they spell none, where it doesn't stand, and for want of memory.
-pub fn told(alloc: Global, bytes: &[u8]) -> Option<(Game, Certificate)>
-    requires { length bytes.now ≤ 2 ^ 27 }
-    ensures text { IfSome result (λ found. (place : ℕ) × IsTextOf found.0 bytes.now (drop place bytes.now) × IsTextFor found.0 found.1 (drop place bytes.now)) }
-    ensures lower { IfSome result (λ found. Earns found.0 found.1) }
-    ensures upper { IfSome result (λ found. HoldsDown found.0 found.1) }
-{
-    let Ok((game, place)) = game_text::read(alloc, bytes) else {
-        return None;
-    };
-    let Ok(certificate) = cert_text::read(alloc, &game, &bytes[place..]) else {
-        return None;
-    };
-    if !earns(&game, &certificate) {
-        return None;
-    }
-    Some((game, certificate))
 }

@@ -4,4 +4,6 @@
 #[cfg(test)]
 mod plays;
 #[cfg(test)]
+mod telling;
+#[cfg(test)]
 mod texts;

@@ -7,8 +7,8 @@ use Rattle.promises.specs.Promises.{ActionEarns}
 use Rattle.promises.proofs.Promises.{Told, action-earns}
 use Rattle.promises.proofs.always_earns.Goals as goal
 
-pub returns : goal.returns
-returns c =
+pub returns-clause-earns : goal.returns-clause-earns
+returns-clause-earns c =
     let g = c.args.game.now in
     let told : Told = record {
       pay = c.law_courses.ensures.pay;

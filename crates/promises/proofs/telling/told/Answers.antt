@@ -1,5 +1,5 @@
 use Rattle.std.proofs.Common.{rules}
-use Rattle.promises.proofs.told.Goals as goal
+use Rattle.promises.proofs.telling.told.Goals as goal
 
 pub returns-clause-upper : goal.returns-clause-upper
 returns-clause-upper c = c.earns.ensures.upper (search rules)
