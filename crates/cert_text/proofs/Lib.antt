@@ -30,3 +30,4 @@ pub mod SoFar
 pub mod Final
 pub mod Refusals
 pub mod Cuts
+pub mod LongLines

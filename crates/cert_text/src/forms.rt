@@ -1,9 +1,9 @@
 //! The words and numbers of one line.
 ghost use Rattle.std.specs.Prelude.{◌≡◌, ◌==◌, length, map, IfOk};
-ghost use Rattle.text_words.specs.Lines.{line_in};
+ghost use Rattle.text_words.specs.Lines.{line_in, words_of};
 ghost use Rattle.std.specs.List.{slice_split};
 ghost use Rattle.cert_text.specs.Fault.{seen};
-ghost use Rattle.text_words.specs.Fault.{Gives};
+ghost use Rattle.text_words.specs.Fault.{Fills, Gives};
 ghost use Rattle.controller.specs.Data.{ending_of};
 ghost use Rattle.cert_text.specs.View.{fraction_is};
 ghost use Rattle.cert_text.specs.Forms.{are_words, version_line, numbers_after, word_after, outcome_of, fraction_of, fraction_from};
@@ -11,51 +11,65 @@ ghost use Rattle.cert_text.specs.Forms.{are_words, version_line, numbers_after, 
 use crate::fault::CertKind;
 use controller::Outcome;
 use std::alloc::{AllocError, Global};
-use text_words::LineFault;
+use text_words::{LineFault, first_word};
 
 /// The numbers of a line that has this first word and this many numbers.
 pub fn numbers_after(
     alloc: Global,
-    words: &[&[u8]],
+    line: &[u8],
     name: &[u8],
     count: usize,
 ) -> Result<Vec<i128>, LineFault<CertKind>>
-    ensures gives { Gives (λ numbers. numbers.items) result (numbers_after name.now count (line_in words.now)) }
+    ensures gives { Gives (λ numbers. numbers.items) result (numbers_after name.now count (words_of line.now)) }
     ensures count { IfOk result (λ numbers. length numbers.items ≡ count) }
 {
-    text_words::numbers_after(alloc, CertKind::Shape, CertKind::Number, words, name, count)
+    text_words::numbers_after(alloc, CertKind::Shape, CertKind::Number, line, name, count)
+}
+
+/// Reads the numbers of a line that has this first word and as many numbers as there is room for.
+pub fn read_numbers(line: &[u8], name: &[u8], numbers: &mut [i128]) -> Result<(), CertKind>
+    ensures said { Fills result numbers.new (numbers_after name.now (length numbers.old) (words_of line.now)) }
+    ensures count { length numbers.new ≡ length numbers.old }
+{
+    text_words::read_numbers(CertKind::Shape, CertKind::Number, line, name, numbers)
 }
 
 /// The one word after this first word.
 #[tactic(auto, unfolding(crate::specs::Forms::word_after))]
-pub fn word_after<'a>(words: &[&'a [u8]], name: &[u8]) -> Result<&'a [u8], CertKind>
-    ensures { seen (λ word. word.now) result ≡ word_after name.now (line_in words.now) }
+pub fn word_after<'a>(line: &'a [u8], name: &[u8]) -> Result<&'a [u8], CertKind>
+    ensures { seen (λ word. word.now) result ≡ word_after name.now (words_of line.now) }
 {
-    match words {
-        [first, word] if *first == name => Ok(*word),
+    match first_word(line) {
+        (first, Some(rest)) if first == name => match first_word(rest) {
+            (word, None) => Ok(word),
+            (_, Some(_)) => Err(CertKind::Shape),
+        },
         _ => Err(CertKind::Shape),
     }
 }
 
 /// Whether the line is these two words.
 #[tactic(auto, unfolding(crate::specs::Forms::are_words))]
-fn are_words(name: &[u8], second: &[u8], words: &[&[u8]]) -> bool
-    ensures { result ≡ are_words name.now second.now (line_in words.now) }
+fn are_words(name: &[u8], second: &[u8], line: &[u8]) -> bool
+    ensures { result ≡ are_words name.now second.now (words_of line.now) }
 {
-    match words {
-        [first, word] => *first == name && *word == second,
-        _ => false,
+    match first_word(line) {
+        (first, Some(rest)) => match first_word(rest) {
+            (word, None) => first == name && word == second,
+            (_, Some(_)) => false,
+        },
+        (_, None) => false,
     }
 }
 
 /// The version that the line `certificate 1` or `certificate 2` says.
 #[tactic(auto, unfolding(crate::specs::Forms::version_line))]
-pub fn version(words: &[&[u8]]) -> Result<u32, CertKind>
-    ensures { result ≡ version_line (line_in words.now) }
+pub fn version(line: &[u8]) -> Result<u32, CertKind>
+    ensures { result ≡ version_line (words_of line.now) }
 {
-    if are_words(b"certificate", b"1", words) {
+    if are_words(b"certificate", b"1", line) {
         Ok(1)
-    } else if are_words(b"certificate", b"2", words) {
+    } else if are_words(b"certificate", b"2", line) {
         Ok(2)
     } else {
         Err(CertKind::Version)

@@ -1,15 +1,16 @@
 //! The lines of nodes and points.
 ghost use Rattle.std.specs.Prelude.{◌≡◌, ◌≤◌, ◌<◌, length, drop, IfOk, pos, ◌≤ℤ◌, ◌*ℤ◌, neg_ℤ, All};
-ghost use Rattle.text_words.specs.Lines.{line_in};
+ghost use Rattle.text_words.specs.Lines.{words_of};
 ghost use Rattle.game_model.specs.Branches.{mix_total};
 ghost use Rattle.point_set.specs.Points.{most_share};
+ghost use Rattle.cert_text.specs.Fault.{seen};
 ghost use Rattle.text_words.specs.Fault.{Gives};
 ghost use Rattle.cert_text.specs.View.{entry_in, AreLimits, IsProgress};
 ghost use Rattle.game_model.specs.Branches.{branch_of};
 ghost use Rattle.cert_text.specs.Entries.{node_said, vector_said, mix_said, branch_said, next_said, point_said, belief_said, value_within, value_said, mixes_said, split_said};
 
 use crate::fault::CertKind;
-use crate::forms::numbers_after;
+use crate::forms::{numbers_after, read_numbers};
 use crate::guards::{
     at_least, belief_total, fits_lack, is_due, later_branch, member_below, none_lacks, sums_to_mix,
 };
@@ -25,11 +26,11 @@ pub fn node_line(
     alloc: Global,
     number: u32,
     lacking: &[i128],
-    words: &[&[u8]],
+    line: &[u8],
 ) -> Result<Entry, LineFault<CertKind>>
-    ensures { Gives entry_in result (node_said number lacking.now (line_in words.now)) }
+    ensures { Gives entry_in result (node_said number lacking.now (words_of line.now)) }
 {
-    let numbers = numbers_after(alloc, words, b"node", 1)?;
+    let numbers = numbers_after(alloc, line, b"node", 1)?;
     is_due(number, numbers[0])?;
     none_lacks(lacking)?;
     Ok(Entry::Node(number))
@@ -39,26 +40,22 @@ pub fn node_line(
 pub fn vector_line(
     alloc: Global,
     limits: &Limits,
-    words: &[&[u8]],
+    line: &[u8],
 ) -> Result<Entry, LineFault<CertKind>>
     requires { AreLimits limits.now }
-    ensures { Gives entry_in result (vector_said limits.now (line_in words.now)) }
+    ensures { Gives entry_in result (vector_said limits.now (words_of line.now)) }
 {
-    let entries = numbers_after(alloc, words, b"vector", limits.states as usize)?;
+    let entries = numbers_after(alloc, line, b"vector", limits.states as usize)?;
     each_within(CertKind::Range, -limits.span, limits.span, &entries)?;
     Ok(Entry::Vector(entries))
 }
 
 #[tactic(auto, unfolding(crate::specs::Entries::mix_said))]
-pub fn mix_line(
-    alloc: Global,
-    limits: &Limits,
-    words: &[&[u8]],
-) -> Result<Entry, LineFault<CertKind>>
+pub fn mix_line(alloc: Global, limits: &Limits, line: &[u8]) -> Result<Entry, LineFault<CertKind>>
     requires { AreLimits limits.now }
-    ensures { Gives entry_in result (mix_said limits.now (line_in words.now)) }
+    ensures { Gives entry_in result (mix_said limits.now (words_of line.now)) }
 {
-    let weights = numbers_after(alloc, words, b"mix", limits.own_actions as usize)?;
+    let weights = numbers_after(alloc, line, b"mix", limits.own_actions as usize)?;
     each_within(CertKind::Range, 0, MIX_TOTAL, &weights)?;
     sums_to_mix(&weights)?;
     Ok(Entry::Mix(weights))
@@ -67,18 +64,18 @@ pub fn mix_line(
 /// A branch to one of so many members, with a weight of 1 to the most.
 #[tactic(auto, unfolding(crate::specs::Entries::branch_said))]
 fn branch(
-    alloc: Global,
     name: &[u8],
     most: i128,
     members: u32,
     progress: &Progress,
-    words: &[&[u8]],
-) -> Result<Branch, LineFault<CertKind>>
-    ensures gives { Gives branch_of result (branch_said name.now most members progress.now (line_in words.now)) }
+    line: &[u8],
+) -> Result<Branch, CertKind>
+    ensures said { seen branch_of result ≡ branch_said name.now most members progress.now (words_of line.now) }
     ensures own { IfOk result (λ b. b.a < progress.now.limits.own_actions) }
     ensures seen { IfOk result (λ b. b.o < progress.now.limits.observations) }
 {
-    let numbers = numbers_after(alloc, words, name, 4)?;
+    let mut numbers = [0; 4];
+    read_numbers(line, name, &mut numbers)?;
     let a = below_limit(CertKind::Range, progress.limits.own_actions, numbers[0])?;
     let o = below_limit(CertKind::Range, progress.limits.observations, numbers[1])?;
     let number = at_least(0, numbers[2])?;
@@ -90,15 +87,11 @@ fn branch(
 
 /// A step: no earlier pair lacks anything, and its own lacks its weight.
 #[tactic(auto, unfolding(crate::specs::Entries::next_said))]
-pub fn next_line(
-    alloc: Global,
-    progress: &Progress,
-    words: &[&[u8]],
-) -> Result<Entry, LineFault<CertKind>>
+pub fn next_line(progress: &Progress, line: &[u8]) -> Result<Entry, CertKind>
     requires { IsProgress progress.now }
-    ensures { Gives entry_in result (next_said progress.now (line_in words.now)) }
+    ensures { seen entry_in result ≡ next_said progress.now (words_of line.now) }
 {
-    let b = branch(alloc, b"next", MIX_TOTAL, progress.nodes, progress, words)?;
+    let b = branch(b"next", MIX_TOTAL, progress.nodes, progress, line)?;
     let i = (b.a * progress.limits.observations + b.o) as usize;
     none_lacks(&progress.lacking[..i])?;
     fits_lack(progress.lacking[i], b.weight)?;
@@ -111,11 +104,11 @@ pub fn point_line(
     alloc: Global,
     number: u32,
     lacking: &[i128],
-    words: &[&[u8]],
+    line: &[u8],
 ) -> Result<Entry, LineFault<CertKind>>
-    ensures { Gives entry_in result (point_said number lacking.now (line_in words.now)) }
+    ensures { Gives entry_in result (point_said number lacking.now (words_of line.now)) }
 {
-    let numbers = numbers_after(alloc, words, b"point", 1)?;
+    let numbers = numbers_after(alloc, line, b"point", 1)?;
     is_due(number, numbers[0])?;
     none_lacks(lacking)?;
     Ok(Entry::Point(number))
@@ -125,12 +118,12 @@ pub fn point_line(
 pub fn belief_line(
     alloc: Global,
     limits: &Limits,
-    words: &[&[u8]],
+    line: &[u8],
 ) -> Result<Entry, LineFault<CertKind>>
     requires { AreLimits limits.now }
-    ensures { Gives entry_in result (belief_said limits.now (line_in words.now)) }
+    ensures { Gives entry_in result (belief_said limits.now (words_of line.now)) }
 {
-    let parts = numbers_after(alloc, words, b"belief", limits.states as usize)?;
+    let parts = numbers_after(alloc, line, b"belief", limits.states as usize)?;
     each_within(CertKind::Range, 0, MOST_BELIEF, &parts)?;
     belief_total(&parts)?;
     Ok(Entry::Belief(parts))
@@ -172,12 +165,12 @@ fn value_within(progress: &Progress, value: i128) -> Result<i128, CertKind>
 pub fn value_line(
     alloc: Global,
     progress: &Progress,
-    words: &[&[u8]],
+    line: &[u8],
 ) -> Result<Entry, LineFault<CertKind>>
     requires { IsProgress progress.now }
-    ensures { Gives entry_in result (value_said progress.now.limits progress.now.total (line_in words.now)) }
+    ensures { Gives entry_in result (value_said progress.now.limits progress.now.total (words_of line.now)) }
 {
-    let numbers = numbers_after(alloc, words, b"value", 1)?;
+    let numbers = numbers_after(alloc, line, b"value", 1)?;
     let value = value_within(progress, numbers[0])?;
     Ok(Entry::Value(value))
 }
@@ -188,12 +181,12 @@ pub fn mixes_line(
     alloc: Global,
     limits: &Limits,
     state: u32,
-    words: &[&[u8]],
+    line: &[u8],
 ) -> Result<Entry, LineFault<CertKind>>
     requires { AreLimits limits.now }
-    ensures { Gives entry_in result (mixes_said limits.now state (line_in words.now)) }
+    ensures { Gives entry_in result (mixes_said limits.now state (words_of line.now)) }
 {
-    let numbers = numbers_after(alloc, words, b"mix", limits.informed_actions as usize + 1)?;
+    let numbers = numbers_after(alloc, line, b"mix", limits.informed_actions as usize + 1)?;
     let weights = &numbers[1..];
     each_within(CertKind::Range, 0, MIX_TOTAL, weights)?;
     is_due(state, numbers[0])?;
@@ -202,20 +195,9 @@ pub fn mixes_line(
 }
 
 #[tactic(auto, unfolding(crate::specs::Entries::split_said))]
-pub fn split_line(
-    alloc: Global,
-    progress: &Progress,
-    words: &[&[u8]],
-) -> Result<Entry, LineFault<CertKind>>
-    ensures { Gives entry_in result (split_said progress.now (line_in words.now)) }
+pub fn split_line(progress: &Progress, line: &[u8]) -> Result<Entry, CertKind>
+    ensures { seen entry_in result ≡ split_said progress.now (words_of line.now) }
 {
-    let b = branch(
-        alloc,
-        b"split",
-        MOST_SHARE,
-        progress.points,
-        progress,
-        words,
-    )?;
+    let b = branch(b"split", MOST_SHARE, progress.points, progress, line)?;
     Ok(Entry::Split(b))
 }

@@ -2,7 +2,7 @@
 ghost use Rattle.std.specs.Prelude.{◌≡◌, ◌+◌, ◌*◌, ◌/◌, ◌^◌, ◌<◌, ◌≤◌, ℕ, List, [], ◌∷◌, length, IfOk, IfErr, ◌==◌, All, pos, ◌+ℤ◌, ◌≤ℤ◌, slice_index_or, unsigned_abs};
 ghost use Rattle.std.specs.List.{after_first};
 ghost use Rattle.scaled_num.specs.Sums.{below, sum_of};
-ghost use Rattle.text_words.specs.Lines.{after_lines, line_in, lines_of};
+ghost use Rattle.text_words.specs.Lines.{after_lines, lines_of, words_of};
 ghost use Rattle.text_words.specs.Fault.{Gives};
 ghost use Rattle.cert_text.specs.View.{IsLack, IsProgress, FitsProgress, entry_in};
 ghost use Rattle.cert_text.specs.Steps.{Accepts, IsUnfinished, line_at};
@@ -26,139 +26,115 @@ use crate::progress::{Entry, Latest, MOST_PAIRS, Progress, Starts, Weights};
 use crate::starts::{first_line, from_line, multiple_line, over_line, start_line};
 use scaled_num::{gcd, sum};
 use std::alloc::Global;
-use text_words::{LineFault, begins, first_words};
+use text_words::{LineFault, begins};
 
 /// After the `sizes` line: the one line of starts of version 1, or the first one of version 2.
 #[tactic(auto, unfolding(crate::specs::Entries::in_sizes))]
-fn in_sizes(
-    alloc: Global,
-    progress: &Progress,
-    words: &[&[u8]],
-) -> Result<Entry, LineFault<CertKind>>
-    ensures { Gives entry_in result (in_sizes progress.now (line_in words.now)) }
+fn in_sizes(alloc: Global, progress: &Progress, line: &[u8]) -> Result<Entry, LineFault<CertKind>>
+    ensures { Gives entry_in result (in_sizes progress.now (words_of line.now)) }
 {
     if progress.starts.version == 1 {
-        start_line(alloc, progress.nodes, progress.points, words)
+        start_line(alloc, progress.nodes, progress.points, line)
     } else {
-        multiple_line(alloc, words)
+        multiple_line(alloc, line)
     }
 }
 
 /// After a `from` line: another one, or the first `over` line.
 #[tactic(auto, unfolding(crate::specs::Entries::in_from))]
-fn in_from(
-    alloc: Global,
-    progress: &Progress,
-    words: &[&[u8]],
-) -> Result<Entry, LineFault<CertKind>>
+fn in_from(alloc: Global, progress: &Progress, line: &[u8]) -> Result<Entry, LineFault<CertKind>>
     requires { IsProgress progress.now }
-    ensures { Gives entry_in result (in_from progress.now (line_in words.now)) }
+    ensures { Gives entry_in result (in_from progress.now (words_of line.now)) }
 {
-    if begins(b"from", words) {
-        from_line(alloc, progress, words)
+    if begins(b"from", line) {
+        from_line(alloc, progress, line)
     } else {
-        over_line(alloc, progress, words)
+        over_line(alloc, progress, line)
     }
 }
 
 /// After an `over` line: another one, or the first node.
 #[tactic(auto, unfolding(crate::specs::Entries::in_over))]
-fn in_over(
-    alloc: Global,
-    progress: &Progress,
-    words: &[&[u8]],
-) -> Result<Entry, LineFault<CertKind>>
-    ensures { Gives entry_in result (in_over progress.now (line_in words.now)) }
+fn in_over(alloc: Global, progress: &Progress, line: &[u8]) -> Result<Entry, LineFault<CertKind>>
+    ensures { Gives entry_in result (in_over progress.now (words_of line.now)) }
 {
-    if begins(b"over", words) {
-        over_line(alloc, progress, words)
+    if begins(b"over", line) {
+        over_line(alloc, progress, line)
     } else {
-        first_line(alloc, &progress.starts, words)
+        first_line(alloc, &progress.starts, line)
     }
 }
 
 /// After a node's `mix` or `next` line: a `next` line, the next node, or the first point.
 #[tactic(auto, unfolding(crate::specs::Entries::in_node))]
-fn in_node(
-    alloc: Global,
-    progress: &Progress,
-    words: &[&[u8]],
-) -> Result<Entry, LineFault<CertKind>>
+fn in_node(alloc: Global, progress: &Progress, line: &[u8]) -> Result<Entry, LineFault<CertKind>>
     requires { IsProgress progress.now }
-    ensures { Gives entry_in result (in_node progress.now (line_in words.now)) }
+    ensures { Gives entry_in result (in_node progress.now (words_of line.now)) }
 {
-    if begins(b"next", words) {
-        next_line(alloc, progress, words)
+    if begins(b"next", line) {
+        Ok(next_line(progress, line)?)
     } else if progress.begun < progress.nodes {
-        node_line(alloc, progress.begun, &progress.lacking, words)
+        node_line(alloc, progress.begun, &progress.lacking, line)
     } else {
-        point_line(alloc, 0, &progress.lacking, words)
+        point_line(alloc, 0, &progress.lacking, line)
     }
 }
 
 /// After a point's last `mix` line or a `split` line: a `split` line, the next point, or `end`.
 #[tactic(auto, unfolding(crate::specs::Entries::in_point))]
-fn in_point(
-    alloc: Global,
-    progress: &Progress,
-    words: &[&[u8]],
-) -> Result<Entry, LineFault<CertKind>>
+fn in_point(alloc: Global, progress: &Progress, line: &[u8]) -> Result<Entry, LineFault<CertKind>>
     requires { IsProgress progress.now }
-    ensures { Gives entry_in result (in_point progress.now (line_in words.now)) }
+    ensures { Gives entry_in result (in_point progress.now (words_of line.now)) }
 {
-    if begins(b"split", words) {
-        split_line(alloc, progress, words)
+    if begins(b"split", line) {
+        Ok(split_line(progress, line)?)
     } else if progress.begun < progress.points {
-        point_line(alloc, progress.begun, &[], words)
+        point_line(alloc, progress.begun, &[], line)
     } else {
-        end_line(alloc, words)
+        end_line(alloc, line)
     }
 }
 
 /// After the `mix` line of a state of a point.
 #[tactic(auto, unfolding(crate::specs::Entries::in_mixes))]
-fn in_mixes(
-    alloc: Global,
-    progress: &Progress,
-    words: &[&[u8]],
-) -> Result<Entry, LineFault<CertKind>>
+fn in_mixes(alloc: Global, progress: &Progress, line: &[u8]) -> Result<Entry, LineFault<CertKind>>
     requires { IsProgress progress.now }
-    ensures { Gives entry_in result (in_mixes progress.now (line_in words.now)) }
+    ensures { Gives entry_in result (in_mixes progress.now (words_of line.now)) }
 {
     if progress.state < progress.limits.states {
-        mixes_line(alloc, &progress.limits, progress.state, words)
+        mixes_line(alloc, &progress.limits, progress.state, line)
     } else {
-        in_point(alloc, progress, words)
+        in_point(alloc, progress, line)
     }
 }
 
 /// What a line says where the reading is this far.
 #[tactic(auto, unfolding(crate::specs::Entries::entry_after))]
-fn entry(alloc: Global, progress: &Progress, words: &[&[u8]]) -> Result<Entry, LineFault<CertKind>>
+fn entry(alloc: Global, progress: &Progress, line: &[u8]) -> Result<Entry, LineFault<CertKind>>
     requires { IsProgress progress.now }
-    ensures { Gives entry_in result (entry_of progress.now (line_in words.now)) }
+    ensures { Gives entry_in result (entry_of progress.now (words_of line.now)) }
 {
     match progress.latest {
-        Latest::Nothing => version_line(words),
-        Latest::Version => outcome_line(words),
-        Latest::Outcome => gap_line(alloc, words),
-        Latest::Gap => lower_line(alloc, words),
-        Latest::Lower => upper_line(alloc, words),
-        Latest::Upper => tail_line(alloc, words),
-        Latest::Tail => sizes_line(alloc, progress.limits.states, words),
-        Latest::Sizes => in_sizes(alloc, progress, words),
-        Latest::Start => node_line(alloc, 0, &[], words),
-        Latest::Multiple => from_line(alloc, progress, words),
-        Latest::From(_) => in_from(alloc, progress, words),
-        Latest::Over(_) => in_over(alloc, progress, words),
-        Latest::Node => vector_line(alloc, &progress.limits, words),
-        Latest::Vector => mix_line(alloc, &progress.limits, words),
-        Latest::Mix | Latest::Next(_, _, _) => in_node(alloc, progress, words),
-        Latest::Point => belief_line(alloc, &progress.limits, words),
-        Latest::Belief => value_line(alloc, progress, words),
-        Latest::Value => mixes_line(alloc, &progress.limits, 0, words),
-        Latest::Mixes => in_mixes(alloc, progress, words),
-        Latest::Split(_, _, _) => in_point(alloc, progress, words),
+        Latest::Nothing => version_line(line),
+        Latest::Version => outcome_line(line),
+        Latest::Outcome => gap_line(alloc, line),
+        Latest::Gap => lower_line(alloc, line),
+        Latest::Lower => upper_line(alloc, line),
+        Latest::Upper => tail_line(alloc, line),
+        Latest::Tail => sizes_line(alloc, progress.limits.states, line),
+        Latest::Sizes => in_sizes(alloc, progress, line),
+        Latest::Start => node_line(alloc, 0, &[], line),
+        Latest::Multiple => from_line(alloc, progress, line),
+        Latest::From(_) => in_from(alloc, progress, line),
+        Latest::Over(_) => in_over(alloc, progress, line),
+        Latest::Node => vector_line(alloc, &progress.limits, line),
+        Latest::Vector => mix_line(alloc, &progress.limits, line),
+        Latest::Mix | Latest::Next(_, _, _) => in_node(alloc, progress, line),
+        Latest::Point => belief_line(alloc, &progress.limits, line),
+        Latest::Belief => value_line(alloc, progress, line),
+        Latest::Value => mixes_line(alloc, &progress.limits, 0, line),
+        Latest::Mixes => in_mixes(alloc, progress, line),
+        Latest::Split(_, _, _) => in_point(alloc, progress, line),
         Latest::End => Err(CertKind::Trailing.into()),
     }
 }
@@ -176,8 +152,10 @@ fn next_entry<'a>(
     ensures after { IfOk result (λ found. found.1.now ≡ after_first (λ b. b == 10) text.now) }
     ensures shorter { IfOk result (λ found. length found.1.now < length text.now) }
 {
-    let (words, rest) = first_words(alloc, CertKind::Missing, text)?;
-    let entry = entry(alloc, progress, &words)?;
+    let Some((line, rest)) = text_words::split_line(text) else {
+        return Err(CertKind::Missing.into());
+    };
+    let entry = entry(alloc, progress, line)?;
     Ok((entry, rest))
 }
 

@@ -1,6 +1,6 @@
 //! The lines of starts.
 ghost use Rattle.std.specs.Prelude.{◌≡◌, ◌≤ℤ◌, length, IfOk, pos};
-ghost use Rattle.text_words.specs.Lines.{line_in};
+ghost use Rattle.text_words.specs.Lines.{words_of};
 ghost use Rattle.text_words.specs.Fault.{Gives};
 ghost use Rattle.cert_text.specs.View.{entry_in, IsProgress};
 ghost use Rattle.cert_text.specs.Entries.{start_said, multiple_said, from_said, over_said, first_said};
@@ -20,11 +20,11 @@ pub fn start_line(
     alloc: Global,
     nodes: u32,
     points: u32,
-    words: &[&[u8]],
+    line: &[u8],
 ) -> Result<Entry, LineFault<CertKind>>
-    ensures { Gives entry_in result (start_said nodes points (line_in words.now)) }
+    ensures { Gives entry_in result (start_said nodes points (words_of line.now)) }
 {
-    let numbers = numbers_after(alloc, words, b"start", 2)?;
+    let numbers = numbers_after(alloc, line, b"start", 2)?;
     let i = at_least(0, numbers[0])?;
     let j = at_least(0, numbers[1])?;
     let node = member_below(nodes, i)?;
@@ -34,10 +34,10 @@ pub fn start_line(
 
 /// The multiple of the first belief.
 #[tactic(auto, unfolding(crate::specs::Entries::multiple_said))]
-pub fn multiple_line(alloc: Global, words: &[&[u8]]) -> Result<Entry, LineFault<CertKind>>
-    ensures { Gives entry_in result (multiple_said (line_in words.now)) }
+pub fn multiple_line(alloc: Global, line: &[u8]) -> Result<Entry, LineFault<CertKind>>
+    ensures { Gives entry_in result (multiple_said (words_of line.now)) }
 {
-    let numbers = numbers_after(alloc, words, b"multiple", 1)?;
+    let numbers = numbers_after(alloc, line, b"multiple", 1)?;
     let multiple = limited(CertKind::Range, 1, MOST_FROM, numbers[0])?;
     Ok(Entry::Multiple(multiple))
 }
@@ -47,12 +47,12 @@ pub fn multiple_line(alloc: Global, words: &[&[u8]]) -> Result<Entry, LineFault<
 pub fn from_line(
     alloc: Global,
     progress: &Progress,
-    words: &[&[u8]],
+    line: &[u8],
 ) -> Result<Entry, LineFault<CertKind>>
     requires { IsProgress progress.now }
-    ensures { Gives entry_in result (from_said progress.now (line_in words.now)) }
+    ensures { Gives entry_in result (from_said progress.now (words_of line.now)) }
 {
-    let numbers = numbers_after(alloc, words, b"from", 2)?;
+    let numbers = numbers_after(alloc, line, b"from", 2)?;
     let number = at_least(0, numbers[0])?;
     let weight = limited(CertKind::Range, 1, MOST_FROM, numbers[1])?;
     above_from(progress.latest, number)?;
@@ -66,11 +66,11 @@ pub fn from_line(
 pub fn over_line(
     alloc: Global,
     progress: &Progress,
-    words: &[&[u8]],
+    line: &[u8],
 ) -> Result<Entry, LineFault<CertKind>>
-    ensures { Gives entry_in result (over_said progress.now (line_in words.now)) }
+    ensures { Gives entry_in result (over_said progress.now (words_of line.now)) }
 {
-    let numbers = numbers_after(alloc, words, b"over", 2)?;
+    let numbers = numbers_after(alloc, line, b"over", 2)?;
     let number = at_least(0, numbers[0])?;
     let weight = limited(CertKind::Range, 1, MOST_OVER, numbers[1])?;
     above_over(progress.latest, number)?;
@@ -81,14 +81,10 @@ pub fn over_line(
 
 /// The first node, behind the start points: their weights are coprime, and this is no text of version 1.
 #[tactic(auto, unfolding(crate::specs::Entries::first_said))]
-pub fn first_line(
-    alloc: Global,
-    starts: &Starts,
-    words: &[&[u8]],
-) -> Result<Entry, LineFault<CertKind>>
-    ensures { Gives entry_in result (first_said starts.now (line_in words.now)) }
+pub fn first_line(alloc: Global, starts: &Starts, line: &[u8]) -> Result<Entry, LineFault<CertKind>>
+    ensures { Gives entry_in result (first_said starts.now (words_of line.now)) }
 {
-    let numbers = numbers_after(alloc, words, b"node", 1)?;
+    let numbers = numbers_after(alloc, line, b"node", 1)?;
     is_due(0, numbers[0])?;
     whole_starts(starts)?;
     Ok(Entry::Node(0))

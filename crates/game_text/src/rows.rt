@@ -15,7 +15,7 @@ use crate::forms::numbers_after;
 use crate::progress::{Latest, Progress, RowEntry};
 use game_model::{Landing, MOST_REWARD, MOST_WIDTH, Shape};
 use std::alloc::Global;
-use text_words::{LineFault, begins, below_limit, limited};
+use text_words::{LineFault, below_limit, limited};
 
 /// The triple is the next one, where so many were begun.
 #[tactic(auto, unfolding(crate::specs::Forms::next_triple))]
@@ -165,6 +165,16 @@ fn triples(shape: Shape) -> u32
     ensures { result ≡ triples shape }
 {
     shape.states * shape.own_actions * shape.informed_actions
+}
+
+/// Whether the words begin with this one.
+fn begins(name: &[u8], words: &[&[u8]]) -> bool
+    ensures { result ≡ begins name.now (line_in words.now) }
+{
+    match words {
+        [first, ..] => *first == name,
+        [] => false,
+    }
 }
 
 /// Whether the line begins with `out`.

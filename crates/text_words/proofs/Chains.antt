@@ -1,5 +1,5 @@
 -- Tests of a line one after another: each gives its value exactly where its rule is kept, and else its fault.
-use Rattle.std.proofs.Common.{◌≡◌, ℕ, ◌<◌, Bool, true, false, cond, ◌&&◌, List, [], ◌∷◌, Result, Ok, Err, ℤ, pos, refl, sym, ap, ◌∙◌, inl, inr, ◌⊎◌}
+use Rattle.std.proofs.Common.{◌≡◌, ℕ, Bool, true, false, cond, ◌&&◌, List, [], ◌∷◌, Result, Ok, Err, ℤ, pos, refl, sym, ap, ◌∙◌, inl, inr, ◌⊎◌}
 use Rattle.std.specs.Prelude.{◌≤ℤ◌, ◌<ℤ◌, unsigned_abs, int_le, int_lt}
 use Rattle.std.specs.List.{AllByRecursion, list_all}
 use Rattle.text_words.specs.Lines.{Line, Word}

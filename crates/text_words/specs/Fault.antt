@@ -12,3 +12,8 @@ Fails (Refused kind) said = said ≡ Err kind
 abbrev pub Gives : {K X Y : Type 0} → (X → Y) → Result X (LineFault K) → Result Y K → Type 0
 Gives view (Ok x) said = said ≡ Ok (view x)
 Gives view (Err fault) said = Fails fault said
+
+-- the room holds what the line says, or it is refused as it says
+abbrev pub Fills : {K Y : Type 0} → Result (Unit {0}) K → Y → Result Y K → Type 0
+Fills (Ok x) room said = said ≡ Ok room
+Fills (Err kind) room said = said ≡ Err kind

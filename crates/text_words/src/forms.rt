@@ -1,77 +1,84 @@
 //! Lines of a word and numbers, and the limits of numbers.
-ghost use Rattle.std.specs.Prelude.{◌≡◌, ◌==◌, ◌≤◌, ◌<◌, length, IfOk, OnOk, All, pos, ◌≤ℤ◌};
-ghost use Rattle.std.specs.List.{after_first};
-ghost use Rattle.text_words.specs.Fault.{Gives};
-ghost use Rattle.text_words.specs.Forms.{begins, first_of, numbers_said, numbers_after, is_within, limited, below_limit, each_within};
-ghost use Rattle.text_words.specs.Lines.{line_in, lines_of};
+ghost use Rattle.std.specs.Prelude.{◌≡◌, ◌==◌, ◌<◌, length, IfOk, OnOk, All, pos, ◌≤ℤ◌};
+ghost use Rattle.text_words.specs.Fault.{Fills, Gives};
+ghost use Rattle.text_words.specs.Forms.{begins, numbers_said, numbers_after, is_within, limited, below_limit, each_within};
+ghost use Rattle.text_words.specs.Lines.{words_behind, words_of};
 
 use crate::fault::LineFault;
-use crate::lines::{split_line, words};
+use crate::lines::{are_behind, first_word};
 use crate::numbers::number;
 use std::alloc::Global;
 
-/// The words of the first line, and what follows it. Without a whole line it is refused for the kind that is given.
-pub fn first_words<K: Copy>(
-    alloc: Global,
-    missing: K,
-    text: &[u8],
-) -> Result<(Vec<&[u8]>, &[u8]), LineFault<K>>
-    ensures gives { Gives (λ found. (line_in found.0.items, lines_of found.1.now)) result
-        (first_of missing (lines_of text.now)) }
-    ensures after { IfOk result (λ found. found.1.now ≡ after_first (λ b. b == 10) text.now) }
-    ensures shorter { IfOk result (λ found. length found.1.now < length text.now) }
+/// Reads the numbers of the words behind the first one of a line, just as many words as there is room for. A word that
+/// is no number word is refused for the kind that is given.
+#[tactic(auto, unfolding(crate::specs::Forms::numbers_said))]
+fn fill<K: Copy>(other: K, behind: Option<&[u8]>, numbers: &mut [i128]) -> Result<(), K>
+    requires { length (words_behind behind) ≡ length numbers.old }
+    ensures said { Fills result numbers.new (numbers_said other (words_behind behind.entry)) }
+    ensures count { length numbers.new ≡ length numbers.old }
 {
-    let Some((line, rest)) = split_line(text) else {
-        return Err(LineFault::Refused(missing));
-    };
-    Ok((words(alloc, line)?, rest))
+    let mut rest = behind;
+    let mut i = 0;
+    while let Some(line) = rest {
+        let (word, after) = first_word(line);
+        let Some(number) = number(word) else {
+            return Err(other);
+        };
+        numbers[i] = number;
+        i += 1;
+        rest = after;
+    }
+    Ok(())
 }
 
-/// The numbers of words that are all number words. A word that is none is refused for the kind that is given.
-#[tactic(auto, unfolding(crate::specs::Forms::numbers_said))]
-fn numbers<K: Copy>(alloc: Global, other: K, words: &[&[u8]]) -> Result<Vec<i128>, LineFault<K>>
-    ensures gives { Gives (λ numbers. numbers.items) result (numbers_said other (line_in words.now)) }
-    ensures count { IfOk result (λ numbers. length numbers.items ≡ length words.now) }
+/// Reads the numbers of a line that is this word and as many numbers as there is room for. Another line is refused for
+/// the kind `shape`, and a word that is no number for the kind `other`; then any numbers may stand in the room.
+#[tactic(auto, unfolding(crate::specs::Forms::numbers_after))]
+pub fn read_numbers<K: Copy>(
+    shape: K,
+    other: K,
+    line: &[u8],
+    name: &[u8],
+    numbers: &mut [i128],
+) -> Result<(), K>
+    ensures said { Fills result numbers.new
+        (numbers_after shape other name.now (length numbers.old) (words_of line.now)) }
+    ensures count { length numbers.new ≡ length numbers.old }
 {
-    let mut numbers = Vec::new(alloc);
-    for word in words {
-        let Some(number) = number(word) else {
-            return Err(LineFault::Refused(other));
-        };
-        numbers.push(number)?;
+    let (first, behind) = first_word(line);
+    if first != name || !are_behind(behind, numbers.len()) {
+        return Err(shape);
     }
-    Ok(numbers)
+    fill(other, behind, numbers)
 }
 
 /// The numbers of a line that is this word and so many numbers. Another line is refused for the kind `shape`, and a
 /// word that is no number for the kind `other`.
-#[tactic(auto, unfolding(crate::specs::Forms::numbers_after))]
 pub fn numbers_after<K: Copy>(
     alloc: Global,
     shape: K,
     other: K,
-    words: &[&[u8]],
+    line: &[u8],
     name: &[u8],
     count: usize,
 ) -> Result<Vec<i128>, LineFault<K>>
     ensures gives { Gives (λ numbers. numbers.items) result
-        (numbers_after shape other name.now count (line_in words.now)) }
+        (numbers_after shape other name.now count (words_of line.now)) }
     ensures count { IfOk result (λ numbers. length numbers.items ≡ count) }
 {
-    match words {
-        [first, rest @ ..] if *first == name && rest.len() == count => numbers(alloc, other, rest),
-        _ => Err(LineFault::Refused(shape)),
+    let mut numbers = vec![in alloc; 0; count]?;
+    match read_numbers(shape, other, line, name, &mut numbers) {
+        Ok(()) => Ok(numbers),
+        Err(kind) => Err(LineFault::Refused(kind)),
     }
 }
 
 /// Whether the line begins with this word.
-pub fn begins(name: &[u8], words: &[&[u8]]) -> bool
-    ensures { result ≡ begins name.now (line_in words.now) }
+pub fn begins(name: &[u8], line: &[u8]) -> bool
+    ensures { result ≡ begins name.now (words_of line.now) }
 {
-    match words {
-        [first, ..] => *first == name,
-        [] => false,
-    }
+    let (first, _) = first_word(line);
+    first == name
 }
 
 /// Whether a number is at least `low` and at most `high`.
