@@ -96,3 +96,10 @@ fn a_visit_tries_fewer_bits_where_runs_end_wide(rt: HostRuntime) -> Result<(), F
     assert!(rt; is_made(rt.alloc(), 3, 6, 1, 89_944_677_015_740_638)?);
     Ok(())
 }
+
+/// The fourth run is the best one on both sides. On the lower side the second one ends wide and the third one spent.
+#[test]
+fn a_visit_ends_with_the_fewest_bits(rt: HostRuntime) -> Result<(), Fail> {
+    assert!(rt; is_made(rt.alloc(), 2, 8, 1, 2_929_276_296_258_562_886)?);
+    Ok(())
+}
