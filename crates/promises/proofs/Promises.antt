@@ -13,35 +13,12 @@ use Rattle.game_model.specs.Seeds.{FixedActionEarns, KeepsSpan}
 use Rattle.game_model.proofs.Pay.{each-from}
 use Rattle.history_model.specs.Courses.{chance, courses, earned}
 use Rattle.history_model.specs.Halves.{common, node_plan, point_plan}
-use Rattle.history_model.specs.MachinePlans.{ActionsPlay, BroughtDivides, MultiplesAgree, NodePlans, NodesPlay, PointPlans, PointsPlay}
 use Rattle.history_model.specs.Machines.{node_weights, one_action, point_weights}
-use Rattle.history_model.specs.Playing.{CoursesWeigh, PlansPay}
-use Rattle.history_model.specs.Starts.{StartNodesWeigh, StartPointsMakeUp, StartsEarn, StartsEarnAt, StartsHold}
 use Rattle.history_model.specs.Strategies.{InformedStrategy, OwnStrategy, informed_weights, own_weights}
-use Rattle.history_model.specs.Trees.{InformedStrategiesArePlans, InformedStrategiesPlay, OwnStrategiesArePlans, OwnStrategiesPlay, informed_tree, own_tree}
+use Rattle.history_model.specs.Trees.{informed_tree, own_tree}
 use Rattle.point_set.specs.Points.{points_of}
+use Rattle.promises.specs.Told.{Told}
 use Rattle.promises.specs.Promises.{ActionEarns, AreDrawn, DrawsExactly, Earns, EarnsAt, EarnsInTheMean, HoldsDown, HoldsInTheMean, StartsAreDrawn, drawn, units}
-
--- what the laws of history_model say
-pub record Told : Type 0 where
-  pub pay : PlansPay
-  pub mean : CoursesWeigh
-  pub own_plans : OwnStrategiesArePlans
-  pub informed_plans : InformedStrategiesArePlans
-  pub own_plays : OwnStrategiesPlay
-  pub informed_plays : InformedStrategiesPlay
-  pub nodes : NodesPlay
-  pub node_plans : NodePlans
-  pub points : PointsPlay
-  pub point_plans : PointPlans
-  pub actions : ActionsPlay
-  pub multiple : MultiplesAgree
-  pub divide : BroughtDivides
-  pub lower : StartsEarn
-  pub lower_at : StartsEarnAt
-  pub upper : StartsHold
-  pub some_node : StartNodesWeigh
-  pub make_up_first : StartPointsMakeUp
 
 -- ---- a node pays what its machine earns, and so does a point
 node-pays : Told → (g : GameData) (k : CertificateData) → CertificateStands g k → (n coins s : ℕ) (strategy : InformedStrategy) (i : ℕ) → i < length k.nodes →

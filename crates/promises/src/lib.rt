@@ -6,6 +6,7 @@ ghost use Rattle.game_model.specs.Game.{first_at, numbers, span};
 ghost use Rattle.promises.specs.Promises.{ActionEarns, DrawsExactly, Earns, EarnsAt, EarnsInTheMean, HoldsDown, HoldsInTheMean, StartsAreDrawn};
 ghost use Rattle.promises.specs.Watching.{EarnsWatched, EarnsWatchedAt, WatchedInTheMean};
 ghost use Rattle.promises.specs.Telling.{IsSeedWorth};
+ghost use Rattle.promises.specs.Told.{Told};
 ghost use Rattle.std.specs.Prelude.{IsTrue, ◌<◌, ◌↔◌};
 
 mod telling;
@@ -43,6 +44,16 @@ pub fn earns(game: &Game, certificate: &Certificate) -> bool
     true
 }
 
+/// A law: what the laws of `history_model` say, together.
+fn law_told()
+    ensures { Told }
+{
+    law_courses();
+    law_strategies();
+    law_machines();
+    law_starts();
+}
+
 /// A law: a certificate that stands keeps the promises.
 pub fn law_promises(game: &Game, certificate: &Certificate)
     requires { CertificateStands game.now certificate.now }
@@ -58,10 +69,7 @@ pub fn law_promises(game: &Game, certificate: &Certificate)
     ensures starts { StartsAreDrawn game.now certificate.now }
 {
     law_game(game);
-    law_courses();
-    law_strategies();
-    law_machines();
-    law_starts();
+    law_told();
 }
 
 /// What always playing one action earns at least, less the tail, against every strategy of the informed player that
@@ -74,10 +82,7 @@ pub fn always_earns(game: &Game, action: u32) -> i128
 {
     law_game(game);
     law_seeds();
-    law_courses();
-    law_strategies();
-    law_machines();
-    law_starts();
+    law_told();
     let mut entries = [0; MOST_STATES];
     let vector = &mut entries[..game.states() as usize];
     game.steady(action, vector);
